@@ -1,0 +1,10 @@
+//! The query of a request's target: its pairs, decoded, and the values of its keys as texts, numbers and flags.
+#![tactic(auto)]
+
+mod reading;
+#[cfg(test)]
+mod tests;
+mod values;
+
+pub use reading::{Query, QueryFault, read_query};
+pub use values::BadValue;
