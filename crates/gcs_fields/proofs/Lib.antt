@@ -1,0 +1,8 @@
+mod RestLemmas
+mod Keeping
+mod Printing
+mod Holding
+mod Running
+mod Complete
+mod Wholes
+pub mod CopyLemmas

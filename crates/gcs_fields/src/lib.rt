@@ -1,0 +1,14 @@
+//! Field masks, by which a client asks for a part of a resource: their text, and what one leaves of
+//! a JSON value.
+#![tactic(auto)]
+
+mod mask;
+mod read;
+mod scan;
+mod select;
+#[cfg(test)]
+mod tests;
+
+pub use mask::{Item, Mask, Name};
+pub use read::{MaskFault, read_mask};
+pub use select::apply;
