@@ -1,0 +1,181 @@
+//! The bytes of an object or of a part of one, as spans of pieces.
+ghost use Rattle.std.specs.Prelude.{◌≡◌, ◌≤◌, ◌<◌, ◌+◌, ◌-◌, ◌++◌, ◌^◌, ◌↔◌, drop, length, min, take, IfOk, IsTrue, OnOk, OnErr};
+ghost use Rattle.std.specs.Arc.{arc_value};
+ghost use Rattle.gcs_chunks.specs.Content.{bytes_of, bytes_of_piece, joined, no_content, part_of, rest_of, rest_parts};
+
+use crate::chunks::Chunks;
+use crate::piece::Piece;
+use crate::span::Span;
+use std::alloc::{AllocError, Global};
+use std::marker::Model;
+use std::sync::Arc;
+
+/// The bytes of an object or of a part of one, fewer than 2^63.
+///
+/// Contracts see an opaque value; `bytes_of` gives its bytes. Contents of the same bytes can be different values.
+#[derive(Drop)]
+pub struct Content {
+    alloc: Global,
+    spans: Vec<Span>,
+    len: u64,
+}
+
+impl Model for Content {
+    ghost use Rattle.std.specs.Prelude.{◌≡◌, ◌^◌, ◌<◌, length};
+    ghost use Rattle.gcs_chunks.specs.Content.{Whole, parts_bytes};
+
+    ghost Value = { Whole };
+
+    ghost view = { λ c. record { parts = c.spans.items } };
+
+    ghost invariant = { λ c. (c.len ≡ length (parts_bytes c.spans.items)) × (c.len < 2 ^ 63) };
+}
+
+impl Content {
+    /// The content without bytes.
+    #[tactic(auto, unfolding(crate::specs::Content::no_content))]
+    pub fn empty(alloc: Global) -> Content
+        ensures { result ≡ no_content }
+    {
+        Content {
+            alloc,
+            spans: Vec::new(alloc),
+            len: 0,
+        }
+    }
+
+    /// How many bytes.
+    #[tactic(auto, unfolding(crate::specs::Content::bytes_of))]
+    pub fn len(&self) -> u64
+        ensures length { result ≡ length (bytes_of self.now) }
+        ensures below { result < 2 ^ 63 }
+    {
+        self.len
+    }
+
+    /// Adds the bytes of the piece from `from` up to `to`. `Err`: no memory, and nothing is added.
+    #[tactic(auto, unfolding(crate::specs::Content::bytes_of, crate::specs::Content::bytes_of_piece, crate::specs::Content::joined, crate::specs::Content::part_of))]
+    pub fn append(&mut self, piece: &Arc<Piece>, from: usize, to: usize) -> Result<(), AllocError>
+        requires order { from ≤ to }
+        requires within { to ≤ length (bytes_of_piece (arc_value piece.now)) }
+        requires size { length (bytes_of self.old) + (to - from) < 2 ^ 63 }
+        ensures ok { OnOk result (self.new ≡ joined self.old (part_of (arc_value piece.now) from to)) }
+        ensures err { OnErr result (self.new ≡ self.old) }
+    {
+        if from < to {
+            self.spans.push(Span::new(piece, from, to)?)?;
+            self.len += (to - from) as u64;
+        }
+        Ok(())
+    }
+
+    /// Adds the other's bytes from `from` on. `Err`: no memory, and nothing is added.
+    #[tactic(auto, unfolding(crate::specs::Content::bytes_of, crate::specs::Content::joined, crate::specs::Content::rest_of))]
+    pub fn join(&mut self, other: &Content, from: u64) -> Result<(), AllocError>
+        requires from { from ≤ length (bytes_of other.now) }
+        requires size { length (bytes_of self.old) + length (bytes_of other.now) < 2 ^ 63 + from }
+        ensures ok { OnOk result (self.new ≡ joined self.old (rest_of other.now from)) }
+        ensures err { OnErr result (self.new ≡ self.old) }
+    {
+        let mut added = spans_from(self.alloc, &other.spans, from)?;
+        self.spans.append(&mut added)?;
+        self.len += other.len - from;
+        Ok(())
+    }
+
+    /// The same content. `Err`: no memory.
+    pub fn copy(&self) -> Result<Content, AllocError>
+        ensures { IfOk result (λ made. made ≡ self.now) }
+    {
+        Ok(Content {
+            alloc: self.alloc,
+            spans: copies_of(self.alloc, &self.spans)?,
+            len: self.len,
+        })
+    }
+
+    /// Bytes from `at` on that lie together, none only where there are none.
+    #[tactic(auto, unfolding(crate::specs::Content::bytes_of))]
+    pub fn slice_at(&self, at: u64) -> &[u8]
+        ensures bytes { result.now ≡ take (length result.now) (drop at (bytes_of self.now)) }
+        ensures some { at < length (bytes_of self.now) → 0 < length result.now }
+    {
+        let mut skip = at;
+        for span in &self.spans {
+            let size = span.len() as u64;
+            if skip < size {
+                return span.bytes_from(skip as usize);
+            }
+            skip -= size;
+        }
+        &[]
+    }
+
+    /// Writes the bytes from `at` on, as many as fit and are there, and tells how many.
+    pub fn read(&self, _chunks: &Chunks, at: u64, into: &mut [u8]) -> usize
+        ensures count { result ≡ min (length into.old) (length (bytes_of self.now) - at) }
+        ensures bytes { into.new ≡ take result (drop at (bytes_of self.now)) ++ drop result into.old }
+    {
+        let start = at.min(self.len());
+        let mut filled = 0usize;
+        while filled < into.len() {
+            let found = self.slice_at(start + filled as u64);
+            if found.is_empty() {
+                break;
+            }
+            let count = found.len().min(into.len() - filled);
+            into[filled..filled + count].copy_from_slice(&found[..count]);
+            filled += count;
+        }
+        filled
+    }
+
+    /// Whether the bytes are equal.
+    pub fn same_spans(&self, other: &Content, _chunks: &Chunks) -> bool
+        ensures { IsTrue result ↔ (bytes_of self.now ≡ bytes_of other.now) }
+    {
+        if self.len() != other.len() {
+            return false;
+        }
+        let mut at = 0u64;
+        while at < self.len() {
+            let mine = self.slice_at(at);
+            let theirs = other.slice_at(at);
+            let count = mine.len().min(theirs.len());
+            if mine[..count] != theirs[..count] {
+                return false;
+            }
+            at += count as u64;
+        }
+        true
+    }
+}
+
+// The spans from a place on.
+fn spans_from(alloc: Global, spans: &[Span], from: u64) -> Result<Vec<Span>, AllocError>
+    ensures { IfOk result (λ made. made.items ≡ rest_parts from spans.now) }
+{
+    let mut made = Vec::new(alloc);
+    let mut skip = from;
+    for span in spans {
+        let size = span.len() as u64;
+        if skip < size {
+            made.push(span.cut(skip as usize)?)?;
+            skip = 0;
+        } else {
+            skip -= size;
+        }
+    }
+    Ok(made)
+}
+
+// The same spans.
+fn copies_of(alloc: Global, spans: &[Span]) -> Result<Vec<Span>, AllocError>
+    ensures { IfOk result (λ made. made.items ≡ spans.now) }
+{
+    let mut made = Vec::new(alloc);
+    for span in spans {
+        made.push(span.copy()?)?;
+    }
+    Ok(made)
+}
