@@ -1,0 +1,16 @@
+pub mod Pairs
+pub mod Content
+pub mod Refusals
+pub mod Tests
+pub mod Moment
+pub mod Policy
+pub mod Uploads
+pub mod Slot
+pub mod Aging
+pub mod Put
+pub mod Step
+pub mod Fit
+pub mod History
+pub mod Bounds
+pub mod Desk
+pub mod Laws

@@ -1,0 +1,100 @@
+//! A content with its digests.
+ghost use Rattle.std.specs.Prelude.{◌≡◌, true};
+ghost use Rattle.gcs_chunks.specs.Content.{bytes_of};
+ghost use Rattle.gcs_crc.specs.Crc.{crc};
+ghost use Rattle.gcs_crc.specs.Digests.{StandsAfter};
+ghost use Rattle.gcs_meaning.specs.Content.{md5_if};
+
+use crate::copying::Copied;
+use gcs_chunks::{Chunks, Content};
+use gcs_crc::Digests;
+use std::alloc::AllocError;
+use std::marker::Model;
+
+/// A content with its CRC32C and, unless it was composed, its MD5. Both are always those of its bytes.
+#[derive(Drop)]
+pub struct Hashed {
+    content: Content,
+    crc32c: u32,
+    md5: Option<[u8; 16]>,
+}
+
+impl Model for Hashed {
+    ghost use Rattle.std.specs.Prelude.{◌≡◌, is_some};
+    ghost use Rattle.gcs_chunks.specs.Content.{bytes_of};
+    ghost use Rattle.gcs_crc.specs.Crc.{crc};
+    ghost use Rattle.gcs_meaning.specs.Content.{Digested, md5_if};
+
+    ghost Value = { Digested };
+
+    ghost view = { λ h. record { content = h.content; with_md5 = is_some h.md5 } };
+
+    ghost invariant = { λ h. (h.crc32c ≡ crc (bytes_of h.content)) × (h.md5 ≡ md5_if (is_some h.md5) (bytes_of h.content)) };
+}
+
+impl Hashed {
+    /// The content with both digests, which are computed here.
+    pub fn of(content: Content, chunks: &Chunks) -> Hashed
+        ensures content { result.content ≡ content }
+        ensures md5 { result.with_md5 ≡ true }
+    {
+        let digests = digests_of(&content, chunks);
+        Hashed::with(content, digests)
+    }
+
+    /// The content with both digests, which were computed while its bytes came.
+    pub fn with(content: Content, digests: Digests) -> Hashed
+        requires { StandsAfter digests (bytes_of content) }
+        ensures content { result.content ≡ content }
+        ensures md5 { result.with_md5 ≡ true }
+    {
+        let (crc32c, digest) = digests.finish();
+        Hashed {
+            content,
+            crc32c,
+            md5: Some(digest),
+        }
+    }
+
+    pub fn content(&self) -> &Content
+        ensures { result.now ≡ self.now.content }
+    {
+        &self.content
+    }
+
+    pub fn crc(&self) -> u32
+        ensures { result ≡ crc (bytes_of self.now.content) }
+    {
+        self.crc32c
+    }
+
+    pub fn md5(&self) -> Option<[u8; 16]>
+        ensures { result ≡ md5_if self.now.with_md5 (bytes_of self.now.content) }
+    {
+        self.md5
+    }
+}
+
+impl Copied for Hashed {
+    fn copy(&self) -> Result<Hashed, AllocError> {
+        Ok(Hashed {
+            content: self.content.copy()?,
+            crc32c: self.crc32c,
+            md5: self.md5,
+        })
+    }
+}
+
+// The digests of all bytes of a content, span by span.
+fn digests_of(content: &Content, _chunks: &Chunks) -> Digests
+    ensures { StandsAfter result (bytes_of content.now) }
+{
+    let mut digests = Digests::new();
+    let mut at = 0;
+    while at < content.len() {
+        let part = content.slice_at(at);
+        digests.update(part);
+        at += part.len() as u64;
+    }
+    digests
+}
