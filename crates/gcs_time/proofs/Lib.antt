@@ -1,0 +1,5 @@
+pub mod Digits
+pub mod Named
+pub mod Places
+pub mod RoundTrip
+pub mod Walks

@@ -1,0 +1,65 @@
+// Moments and their texts: civil dates as `date -u` gives them, and what RFC 3339 and this profile of it refuse.
+use crate::{law_round_trip, law_time_of, read_time, time_text};
+
+#[test]
+fn moments_have_their_civil_texts(rt: HostRuntime) {
+    let cases: [(u64, &[u8; 24]); 5] = [
+        (0, b"1970-01-01T00:00:00.000Z"),
+        (1_700_000_000_000_000, b"2023-11-14T22:13:20.000Z"),
+        (1_700_604_800_000_000, b"2023-11-21T22:13:20.000Z"),
+        (951_868_799_999_999, b"2000-02-29T23:59:59.999Z"),
+        (u64::MAX, b"9999-12-31T23:59:59.999Z"),
+    ];
+    for (moment, want) in cases {
+        assert!(rt; time_text(moment) == *want);
+    }
+}
+
+#[test]
+fn texts_in_any_zone_name_their_moment(rt: HostRuntime) {
+    let cases: [(&[u8], u64); 8] = [
+        (b"2023-11-14T22:13:20.000Z", 1_700_000_000_000_000),
+        (b"2023-11-14t22:13:20z", 1_700_000_000_000_000),
+        (b"2023-11-15T00:13:20+02:00", 1_700_000_000_000_000),
+        (b"2023-11-14T20:43:20.5-01:30", 1_700_000_000_500_000),
+        (b"1970-01-01T00:00:00.123456789Z", 123_456),
+        (b"1969-12-31T23:30:00-01:00", 1_800_000_000),
+        (b"2000-02-29T00:00:00Z", 951_782_400_000_000),
+        (b"9999-12-31T23:59:59.999999Z", 253_402_300_799_999_999),
+    ];
+    for (text, want) in cases {
+        assert!(rt; matches!(read_time(text), Ok(moment) if moment == want));
+    }
+}
+
+#[test]
+fn other_texts_name_no_moment(rt: HostRuntime) {
+    let cases: [&[u8]; 12] = [
+        b"",
+        b"2023-11-14",
+        b"2023-11-14T22:13:20",
+        b"2023-11-14T22:13:60Z",
+        b"2023-11-14T24:00:00Z",
+        b"2023-02-29T00:00:00Z",
+        b"2023-13-01T00:00:00Z",
+        b"2023-11-14T22:13:20.Z",
+        b"2023-11-14T22:13:20.1234567890Z",
+        b"2023-11-14T22:13:20+24:00",
+        b"1969-12-31T23:59:59Z",
+        b"9999-12-31T23:59:59-00:01",
+    ];
+    for text in cases {
+        assert!(rt; read_time(text).is_err());
+    }
+}
+
+#[test]
+fn a_written_text_is_read_as_the_moment_cut_to_milliseconds(rt: HostRuntime) {
+    law_round_trip();
+    law_time_of();
+    for moment in [0u64, 1_999, 1_700_000_000_123_456, 4_107_542_399_999_999] {
+        let text = time_text(moment);
+        let cut = moment / 1000 * 1000;
+        assert!(rt; matches!(read_time(&text), Ok(back) if back == cut));
+    }
+}
