@@ -1,0 +1,10 @@
+//! Names of buckets and objects, accepted exactly by rule, and the bytes that a path's segment stands for.
+#![tactic(auto)]
+
+mod names;
+mod segments;
+#[cfg(test)]
+mod tests;
+
+pub use names::{BadName, bucket_name, object_name};
+pub use segments::segment;
