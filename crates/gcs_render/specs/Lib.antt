@@ -1,0 +1,7 @@
+pub mod Fields
+pub mod Resources
+pub mod Refusals
+pub mod PageTokens
+pub mod Lists
+pub mod Whole
+pub mod Laws

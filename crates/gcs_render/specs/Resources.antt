@@ -1,0 +1,176 @@
+-- What a resource shows (Cloud Storage JSON API, "Objects" and "Buckets", "Resource representations"), by its fields.
+use Rattle.std.specs.Prelude.{ℕ, ◌+◌, ◌-◌, ◌^◌, min, List, [], ◌∷◌, ◌++◌, length, Bool, true, false, Option, Some, None, option_map, option_and_then, unwrap_or, if◌then◌else◌, codes, decimal}
+use Rattle.gcs_meaning.specs.declared.version.Row.{Row}
+use Rattle.gcs_meaning.specs.declared.version.BucketRow.{BucketRow}
+use Rattle.gcs_meaning.specs.declared.version.Kind.{Kind}
+use Rattle.gcs_meaning.specs.declared.version.Kind.TheVariants.{Live, Noncurrent, Soft}
+use Rattle.gcs_meaning.specs.declared.settings.Meta.{Meta}
+use Rattle.gcs_meaning.specs.declared.settings.Settings.{Settings}
+use Rattle.gcs_meaning.specs.declared.settings.Retention.{Retention}
+use Rattle.gcs_meaning.specs.Content.{bytes_in, md5_if}
+use Rattle.gcs_meaning.specs.Policy.{micros}
+use Rattle.gcs_crc.specs.Crc.{crc}
+use Rattle.gcs_crc.specs.Text.{crc_text_of, md5_text_of}
+use Rattle.serde_json.specs.Data.{Data}
+use Rattle.serde_json.specs.Read.{read}
+use Rattle.gcs_render.specs.Fields.{Field, object_of, text, text_if, long, count_if, truth, where_true, time, time_if, pairs_if, inner}
+
+-- ---- parts of a resource
+
+-- the generation, a slash, the metageneration
+abbrev pub etag : ℕ → ℕ → List ℕ
+etag generation metageneration = decimal generation ++ codes "/" ++ decimal metageneration
+
+-- the bucket, the name and the generation, with slashes between
+abbrev pub object_id : List ℕ → List ℕ → ℕ → List ℕ
+object_id bucket name generation = bucket ++ codes "/" ++ name ++ codes "/" ++ decimal generation
+
+-- since when a version is noncurrent
+abbrev pub noncurrent_since : Kind → Option ℕ
+noncurrent_since Live = None
+noncurrent_since (Noncurrent at) = Some at
+noncurrent_since (Soft at hard) = None
+
+-- since when a version is soft-deleted
+abbrev pub soft_since : Kind → Option ℕ
+soft_since Live = None
+soft_since (Noncurrent at) = None
+soft_since (Soft at hard) = Some at
+
+-- when a soft-deleted version goes
+abbrev pub hard_time : Kind → Option ℕ
+hard_time Live = None
+hard_time (Noncurrent at) = None
+hard_time (Soft at hard) = Some hard
+
+-- the end of a retention of so many seconds; no end is above the greatest number of 64 bits
+abbrev pub retention_end : ℕ → ℕ → ℕ
+retention_end start seconds = min (start + micros seconds) (2 ^ 64 - 1)
+
+-- the end of the retention, for a kind of version that a policy retains
+abbrev pub retained_by : Kind → ℕ → Option Retention → Option ℕ
+retained_by (Soft at hard) start policy = None
+retained_by _ start policy = option_map (λ p. retention_end start p.period) policy
+
+-- until when a version is retained; under an event-based hold its retention has no end
+abbrev pub retained_until : Row → Settings → Option ℕ
+retained_until row settings =
+    if unwrap_or row.meta.event_hold false then None else retained_by row.kind row.retention_start settings.retention
+
+-- ---- objects
+
+-- what tells which version it is
+abbrev pub version_fields : List ℕ → Row → List Field
+version_fields bucket row =
+    (codes "bucket", text bucket)
+    ∷ (codes "name", text row.name)
+    ∷ (codes "kind", text (codes "storage#object"))
+    ∷ (codes "id", text (object_id bucket row.name row.generation))
+    ∷ (codes "etag", text (etag row.generation row.metageneration))
+    ∷ (codes "generation", long row.generation)
+    ∷ (codes "metageneration", long row.metageneration)
+    ∷ (codes "size", long (length (bytes_in row.hashed)))
+    ∷ (codes "componentCount", count_if row.components)
+    ∷ []
+
+-- what the content is
+abbrev pub content_fields : Row → Settings → List Field
+content_fields row settings =
+    (codes "contentType", text row.meta.content_type)
+    ∷ (codes "storageClass", text (unwrap_or row.meta.storage_class settings.storage_class))
+    ∷ (codes "crc32c", text (crc_text_of (crc (bytes_in row.hashed))))
+    ∷ (codes "md5Hash", text_if (option_map md5_text_of (md5_if row.hashed.with_md5 (bytes_in row.hashed))))
+    ∷ []
+
+-- what its owner says of it
+abbrev pub meta_fields : Meta → List Field
+meta_fields meta =
+    (codes "cacheControl", text_if meta.cache_control)
+    ∷ (codes "contentDisposition", text_if meta.content_disposition)
+    ∷ (codes "contentEncoding", text_if meta.content_encoding)
+    ∷ (codes "contentLanguage", text_if meta.content_language)
+    ∷ (codes "customTime", time_if meta.custom_time)
+    ∷ (codes "metadata", pairs_if meta.custom)
+    ∷ []
+
+-- holds, times and kind
+abbrev pub state_fields : Row → Settings → List Field
+state_fields row settings =
+    (codes "temporaryHold", where_true row.meta.temporary_hold)
+    ∷ (codes "eventBasedHold", where_true (unwrap_or row.meta.event_hold false))
+    ∷ (codes "timeCreated", time row.created)
+    ∷ (codes "updated", time row.updated)
+    ∷ (codes "timeDeleted", time_if (noncurrent_since row.kind))
+    ∷ (codes "softDeleteTime", time_if (soft_since row.kind))
+    ∷ (codes "hardDeleteTime", time_if (hard_time row.kind))
+    ∷ (codes "retentionExpirationTime", time_if (retained_until row settings))
+    ∷ []
+
+abbrev pub object_fields : List ℕ → Row → Settings → List Field
+object_fields bucket row settings = version_fields bucket row ++ content_fields row settings ++ meta_fields row.meta ++ state_fields row settings
+
+-- the resource of a version in this bucket
+unfoldable pub object_data : List ℕ → Row → Settings → Data
+object_data bucket row settings = object_of (object_fields bucket row settings)
+
+-- ---- buckets
+
+-- which bucket it is
+abbrev pub name_fields : BucketRow → List Field
+name_fields row =
+    (codes "etag", text (etag row.generation row.metageneration))
+    ∷ (codes "generation", long row.generation)
+    ∷ (codes "id", text row.name)
+    ∷ (codes "name", text row.name)
+    ∷ (codes "kind", text (codes "storage#bucket"))
+    ∷ (codes "metageneration", long row.metageneration)
+    ∷ (codes "timeCreated", time row.created)
+    ∷ (codes "updated", time row.updated)
+    ∷ []
+
+-- how long deleted versions are kept, and since when the bucket does so
+abbrev pub soft_policy_fields : Settings → List Field
+soft_policy_fields settings =
+    (codes "effectiveTime", time settings.soft_since)
+    ∷ (codes "retentionDurationSeconds", long settings.soft_seconds)
+    ∷ []
+
+-- what every bucket has
+abbrev pub fixed_fields : Settings → List Field
+fixed_fields settings =
+    (codes "location", text settings.location)
+    ∷ (codes "softDeletePolicy", inner (soft_policy_fields settings))
+    ∷ (codes "storageClass", text settings.storage_class)
+    ∷ []
+
+abbrev pub retention_fields : Retention → List Field
+retention_fields policy =
+    (codes "effectiveTime", time policy.since)
+    ∷ (codes "isLocked", truth policy.locked)
+    ∷ (codes "retentionPeriod", long policy.period)
+    ∷ []
+
+-- the retention policy, where there is one
+abbrev pub retention_if : Option Retention → Option Data
+retention_if policy = option_map (λ p. object_of (retention_fields p)) policy
+
+-- versioning, where it is on
+abbrev pub versioning_if : Bool → Option Data
+versioning_if versioned = if versioned then inner ((codes "enabled", truth true) ∷ []) else None
+
+-- what stands where it is set; a lifecycle whose text has no reading isn't shown
+abbrev pub settings_fields : Settings → List Field
+settings_fields settings =
+    (codes "defaultEventBasedHold", where_true settings.default_event_hold)
+    ∷ (codes "labels", pairs_if settings.labels)
+    ∷ (codes "lifecycle", option_and_then read settings.lifecycle)
+    ∷ (codes "retentionPolicy", retention_if settings.retention)
+    ∷ (codes "versioning", versioning_if settings.versioned)
+    ∷ []
+
+abbrev pub bucket_fields : BucketRow → List Field
+bucket_fields row = name_fields row ++ fixed_fields row.settings ++ settings_fields row.settings
+
+-- the resource of a bucket
+unfoldable pub bucket_data : BucketRow → Data
+bucket_data row = object_of (bucket_fields row)
