@@ -1,0 +1,11 @@
+use Rattle.gcs_bucket.proofs.Sound.{sound_after}
+use Rattle.gcs_bucket.proofs.bucket.Bucket.apply.Goals as goal
+
+pub invariant_of-self : goal.invariant_of-self
+invariant_of-self c =
+    sound_after c.apply.result _ _ _ _ c.requires.built c.self.invariant c.apply.ensures.done c.apply.ensures.err
+
+pub returns-clause-fit : goal.returns-clause-fit
+returns-clause-fit c =
+    let sound = sound_after c.apply.result _ _ _ _ c.requires.built c.self.invariant c.apply.ensures.done c.apply.ensures.err in
+    sound.fit

@@ -1,0 +1,41 @@
+-- Slots by name, as a shard keeps them.
+use Rattle.std.specs.Prelude.{◌≡◌, ◌≤◌, ◌<◌, ◌^◌, ℕ, List, [], ◌∷◌, length, insert, slice_get, Some, None}
+use Rattle.gcs_meaning.specs.declared.command.Answer.{Answer}
+use Rattle.gcs_meaning.specs.declared.command.Command.{Command}
+use Rattle.gcs_meaning.specs.declared.command.Entry.{Entry}
+use Rattle.gcs_meaning.specs.Slot.{Slot}
+use Rattle.gcs_meaning.specs.Step.{IsSmall, step}
+use Rattle.gcs_meaning.specs.History.{Slots, slot_of, with_slot, replay}
+use Rattle.gcs_bucket.specs.Rows.{map_at}
+
+-- the numbers of all slots leave room for one more step
+abbrev pub AreSmall : Slots → Type 0
+AreSmall [] = Unit {0}
+AreSmall (p ∷ ps) = IsSmall p.1 × AreSmall ps
+
+-- the pair with another slot
+abbrev pub with_second : Slot → List ℕ × Slot → List ℕ × Slot
+with_second slot p = (p.0, slot)
+
+-- the slot of the name stands here
+pub record IsSlotAt (name : List ℕ) (slots : Slots) (i : ℕ) : Type 0 where
+  pub within : i < length slots
+  pub slot_is : (p : List ℕ × Slot) → slice_get slots i ≡ Some p → slot_of name slots ≡ Some p.1
+  pub set_is : (slot : Slot) → with_slot name slot slots ≡ map_at i (with_second slot) slots
+
+-- the name has no slot, and its place is here
+pub record IsGapAt (name : List ℕ) (slots : Slots) (i : ℕ) : Type 0 where
+  pub within : i ≤ length slots
+  pub none : slot_of name slots ≡ None
+  pub set_is : (slot : Slot) → with_slot name slot slots ≡ insert slots i (name, slot)
+
+-- the slot at this place made a step, and the others stayed
+pub record IsSteppedAt (place moment : ℕ) (command : Command) (old : Slots) (answer : Answer) (new : Slots) : Type 0 where
+  pub slot : Slot
+  pub stepped : (p : List ℕ × Slot) → slice_get old place ≡ Some p → step p.1 moment command ≡ (answer, slot)
+  pub new_is : new ≡ map_at place (with_second slot) old
+
+-- the slots of a shard are those of its history, which has room for its numbers
+pub record IsShard (slots : Slots) (history : List Entry) : Type 0 where
+  pub replayed : slots ≡ replay history
+  pub few : length history < 2 ^ 59

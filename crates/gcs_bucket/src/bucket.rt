@@ -1,0 +1,77 @@
+//! A bucket's slot: what is kept under its name, and the one call that changes it.
+ghost use Rattle.std.specs.Prelude.{◌≡◌, IfOk, OnErr};
+ghost use Rattle.gcs_meaning.specs.Fit.{IsFit};
+ghost use Rattle.gcs_meaning.specs.Slot.{fresh_slot};
+ghost use Rattle.gcs_meaning.specs.Step.{step, IsBuilt, IsSmall};
+
+use crate::slot::Slot;
+use gcs_chunks::Chunks;
+#[cfg(test)]
+use gcs_meaning::Row;
+use gcs_meaning::{Answer, Command};
+use std::alloc::{AllocError, Global};
+use std::marker::Model;
+
+/// What is kept under the name of a bucket, seen as its slot: the bucket while it is alive, its
+/// versions, and the last numbers, which outlive it.
+///
+/// put a, clock 10   a: 10 live
+/// put a, clock 10   a: 10 soft-deleted, 11 live         two generations in one moment
+/// put a, clock 5    a: 10 and 11 soft-deleted, 12 live  the moment stays 10
+#[derive(Drop)]
+pub struct Bucket {
+    slot: Slot,
+}
+
+impl Model for Bucket {
+    ghost use Rattle.gcs_meaning.specs.Slot.{Slot};
+    ghost use Rattle.gcs_bucket.specs.Living.{IsSound, value_of};
+
+    ghost Value = { Slot };
+
+    ghost view = { λ b. value_of b.slot };
+
+    ghost invariant = { λ b. IsSound (value_of b.slot) };
+}
+
+impl Bucket {
+    /// The slot of a name before the first insert.
+    #[tactic(auto, using(crate::proofs::Sound::fresh_sound))]
+    pub fn new(alloc: Global) -> Bucket
+        ensures { result ≡ fresh_slot }
+    {
+        Bucket {
+            slot: Slot::new(alloc),
+        }
+    }
+
+    /// One command, whose request took the clock's reading `moment` (microseconds since 1970). The
+    /// slot is aged first, then tested, then changed; a refusal is an answer.
+    ///
+    /// `Err`: no memory, and the slot stays as it was, not even aged.
+    pub fn apply(
+        &mut self,
+        moment: u64,
+        command: &Command,
+        _chunks: &Chunks,
+    ) -> Result<Answer, AllocError>
+        requires small { IsSmall self.old }
+        requires built { IsBuilt command.now }
+        ensures done { IfOk result (λ answer. step self.old moment command.now ≡ (answer, self.new)) }
+        ensures err { OnErr result (self.new ≡ self.old) }
+        ensures fit { IsFit self.new }
+    {
+        self.slot.apply(moment, command)
+    }
+}
+
+#[cfg(test)]
+impl Bucket {
+    // The versions, none where the bucket isn't alive.
+    pub fn rows(&self) -> &[Row] {
+        match &self.slot.living {
+            Some(living) => &living.rows,
+            None => &[],
+        }
+    }
+}

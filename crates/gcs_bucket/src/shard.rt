@@ -1,0 +1,109 @@
+//! A shard: its slots, and the history that they come from.
+ghost use Rattle.std.specs.Prelude.{◌≡◌, ◌<◌, ◌+◌, ◌^◌, [], ◌∷◌, ◌++◌, IfOk, IfErr, OnErr, OnOk, length, vec_capacity, vec_len};
+ghost use Rattle.std.specs.Option.{option_copied};
+ghost use Rattle.gcs_meaning.specs.History.{answer_of, replay, slot_of};
+ghost use Rattle.gcs_meaning.specs.Step.{IsBuilt};
+
+use crate::bucket::Bucket;
+use crate::slots::{find_slot, step_slots};
+use gcs_chunks::Chunks;
+use gcs_meaning::{Answer, BucketName, Command, Entry};
+use std::alloc::Global;
+use std::marker::Model;
+
+// A history stays below 2^59 entries, so that no number of a slot wraps.
+const MOST_ENTRIES: usize = 0x07FF_FFFF_FFFF_FFFF;
+
+/// The slots of a shard and its history, seen as the history: the slots are always the replay of it.
+#[derive(Drop)]
+pub struct Shard<'c> {
+    chunks: &'c Chunks,
+    slots: Vec<(BucketName, Bucket)>,
+    history: Vec<Entry>,
+}
+
+impl<'c> Model for Shard<'c> {
+    ghost use Rattle.std.specs.Prelude.{List};
+    ghost use Rattle.gcs_meaning.specs.declared.command.Entry.{Entry};
+    ghost use Rattle.gcs_bucket.specs.Shard.{IsShard};
+
+    ghost Value = { List Entry };
+
+    ghost view = { λ s. s.history.items };
+
+    ghost invariant = { λ s. IsShard s.slots.items s.history.items };
+}
+
+impl<'c> Shard<'c> {
+    /// A shard without an entry, whose contents are of these chunks.
+    pub fn new(alloc: Global, chunks: &'c Chunks) -> Shard<'c>
+        ensures { result ≡ [] }
+    {
+        Shard {
+            chunks,
+            slots: Vec::new(alloc),
+            history: Vec::new(alloc),
+        }
+    }
+
+    /// The slot of a name, where it had an insert.
+    pub fn slot(&self, name: &BucketName) -> Option<&Bucket>
+        ensures { option_copied result ≡ slot_of name.now (replay self.now) }
+    {
+        find_slot(&self.slots, name)
+    }
+
+    /// The entries, the first one first.
+    pub fn history(&self) -> &[Entry]
+        ensures { result.now ≡ self.now }
+    {
+        &self.history
+    }
+
+    /// Adds one entry, the caller's of this number, at a reading of the clock (microseconds since
+    /// 1970), and gives its answer.
+    ///
+    /// `Err`: no memory, or no room for an entry: the command comes back, and nothing is changed.
+    pub fn apply(
+        &mut self,
+        caller: u32,
+        number: u64,
+        moment: u64,
+        command: Command,
+    ) -> Result<Answer, Command>
+        requires { IsBuilt command }
+        ensures entry { OnOk result (self.new ≡ self.old ++ record { caller = caller; number = number; moment = moment; command = command } ∷ []) }
+        ensures few { OnOk result (length self.new < 2 ^ 59) }
+        ensures answer { IfOk result (λ answer. answer ≡ answer_of self.old moment command) }
+
+        ensures back { IfErr result (λ back. back ≡ command) }
+        ensures unchanged { OnErr result (self.new ≡ self.old) }
+    {
+        // Room is taken before the step: once the step is made, the entry cannot fail.
+        if self.history.len() >= MOST_ENTRIES || self.history.reserve(1).is_err() {
+            return Err(command);
+        }
+        match step_slots(&mut self.slots, moment, &command, self.chunks) {
+            Ok(answer) => {
+                push_entry(
+                    &mut self.history,
+                    Entry {
+                        caller,
+                        number,
+                        moment,
+                        command,
+                    },
+                );
+                Ok(answer)
+            }
+            Err(_) => Err(command),
+        }
+    }
+}
+
+fn push_entry(history: &mut Vec<Entry>, entry: Entry)
+    requires { vec_len history.old < vec_capacity history.old }
+    ensures { history.new.items ≡ history.old.items ++ entry ∷ [] }
+{
+    let _ = history.push(entry);
+}

@@ -1,0 +1,128 @@
+//! The slots of a shard, in a plain vector that rises by name.
+ghost use Rattle.std.specs.Prelude.{◌≡◌, ◌≤◌, ◌<◌, IfOk, IfErr, OnErr, insert, length, vec_capacity, vec_len};
+ghost use Rattle.std.specs.Option.{option_copied};
+ghost use Rattle.gcs_meaning.specs.History.{first_step, shard_step, slot_of};
+ghost use Rattle.gcs_meaning.specs.Slot.{fresh_slot};
+ghost use Rattle.gcs_meaning.specs.Step.{step, IsBuilt};
+ghost use Rattle.gcs_bucket.specs.Shard.{AreSmall, IsGapAt, IsSlotAt, IsSteppedAt};
+
+use crate::bucket::Bucket;
+use gcs_chunks::Chunks;
+use gcs_meaning::{Answer, BucketName, Command, Copied, Reason};
+use std::alloc::{AllocError, Global};
+use std::cmp::Ordering;
+
+/// The slot of a name.
+pub fn find_slot<'a>(slots: &'a [(BucketName, Bucket)], name: &BucketName) -> Option<&'a Bucket>
+    ensures { option_copied result ≡ slot_of name.now slots.now }
+{
+    match place_of(slots, name) {
+        Ok(place) => Some(&slots[place].1),
+        Err(_) => None,
+    }
+}
+
+/// One command on the slots. `Err`: no memory, and they stay as they were.
+#[tactic(auto, unfolding(gcs_meaning::specs::History::shard_step))]
+pub fn step_slots(
+    slots: &mut Vec<(BucketName, Bucket)>,
+    moment: u64,
+    command: &Command,
+    chunks: &Chunks,
+) -> Result<Answer, AllocError>
+    requires small { AreSmall slots.old.items }
+    requires built { IsBuilt command.now }
+    ensures done { IfOk result (λ answer. shard_step slots.old.items moment command.now ≡ (answer, slots.new.items)) }
+    ensures err { OnErr result (slots.new.items ≡ slots.old.items) }
+{
+    let Some(name) = command.bucket() else {
+        unreachable!()
+    };
+    match place_of(slots, name) {
+        Ok(place) => step_at(slots, place, moment, command, chunks),
+        Err(place) => first_at(slots, place, name, moment, command, chunks),
+    }
+}
+
+// Where the slot of a name is or, as the `Err`, where it belongs.
+fn place_of(slots: &[(BucketName, Bucket)], name: &BucketName) -> Result<usize, usize>
+    ensures found { IfOk result (IsSlotAt name.now slots.now) }
+    ensures gap { IfErr result (IsGapAt name.now slots.now) }
+{
+    for (place, (other, _)) in slots.iter().enumerate() {
+        match name.as_bytes().cmp(other.as_bytes()) {
+            Ordering::Less => return Err(place),
+            Ordering::Equal => return Ok(place),
+            Ordering::Greater => {}
+        }
+    }
+    Err(slots.len())
+}
+
+fn step_at(
+    slots: &mut Vec<(BucketName, Bucket)>,
+    place: usize,
+    moment: u64,
+    command: &Command,
+    chunks: &Chunks,
+) -> Result<Answer, AllocError>
+    requires place { place < length slots.old.items }
+    requires small { AreSmall slots.old.items }
+    requires built { IsBuilt command.now }
+    ensures done { IfOk result (λ answer. IsSteppedAt place moment command.now slots.old.items answer slots.new.items) }
+    ensures err { OnErr result (slots.new.items ≡ slots.old.items) }
+{
+    let entry = &mut slots[place];
+    entry.1.apply(moment, command, chunks)
+}
+
+// The first command on a name, whose place is given. Only an insert makes a slot.
+fn first_at(
+    slots: &mut Vec<(BucketName, Bucket)>,
+    place: usize,
+    name: &BucketName,
+    moment: u64,
+    command: &Command,
+    chunks: &Chunks,
+) -> Result<Answer, AllocError>
+    requires gap { IsGapAt name.now slots.old.items place }
+    requires built { IsBuilt command.now }
+    ensures done { IfOk result (λ answer. first_step name.now slots.old.items moment command.now ≡ (answer, slots.new.items)) }
+    ensures err { OnErr result (slots.new.items ≡ slots.old.items) }
+{
+    match command {
+        Command::BucketInsert { .. } => {
+            slots.reserve(1)?;
+            let (answer, slot) = make_slot(*slots.allocator(), name, moment, command, chunks)?;
+            insert_slot(slots, place, slot);
+            Ok(answer)
+        }
+        _ => Ok(Answer::Refused(Reason::NoBucket)),
+    }
+}
+
+// A name with its slot after a first command.
+fn make_slot(
+    alloc: Global,
+    name: &BucketName,
+    moment: u64,
+    command: &Command,
+    chunks: &Chunks,
+) -> Result<(Answer, (BucketName, Bucket)), AllocError>
+    requires { IsBuilt command.now }
+    ensures name { IfOk result (λ made. made.1.0 ≡ name.now) }
+    ensures done { IfOk result (λ made. step fresh_slot moment command.now ≡ (made.0, made.1.1)) }
+{
+    let name = name.copy()?;
+    let mut bucket = Bucket::new(alloc);
+    let answer = bucket.apply(moment, command, chunks)?;
+    Ok((answer, (name, bucket)))
+}
+
+fn insert_slot(slots: &mut Vec<(BucketName, Bucket)>, place: usize, slot: (BucketName, Bucket))
+    requires place { place ≤ length slots.old.items }
+    requires room { vec_len slots.old < vec_capacity slots.old }
+    ensures { slots.new.items ≡ insert slots.old.items place slot }
+{
+    let _ = slots.insert(place, slot);
+}
