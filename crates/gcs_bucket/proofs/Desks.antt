@@ -18,6 +18,7 @@ entries_of_own : (es : List Entry) → AllByRecursion (λ e. e.caller ≡ 0) es 
 entries_of_own [] own = refl
 entries_of_own (e ∷ es) own = grind (arith, nat_tests, own.0, entries_of_own es own.1)
 
+-- a greater number is another
 other_number : (a b c d : ℕ) → d < c → ((a == b) && (c == d)) ≡ false
 other_number a b c d above = grind (arith, nat_tests)
 
@@ -41,6 +42,7 @@ own_lists hs own = record {
   distinct = λ s. numbered_distinct (history_at hs s) 0 (own.numbered s);
 }
 
+-- one more entry of caller 0, with the next number
 own-push : (es : List Entry) (e : Entry) → AllByRecursion (λ f. f.caller ≡ 0) es → e.caller ≡ 0 → AllByRecursion (λ f. f.caller ≡ 0) (es ++ e ∷ [])
 own-push [] e own called = (called, tt)
 own-push (first ∷ es) e own called = (own.0, own-push es e own.1 called)
@@ -49,6 +51,7 @@ numbered-push : (es : List Entry) (e : Entry) (n : ℕ) → AreNumbered n es →
 numbered-push [] e n numbered is = (omega arith, tt)
 numbered-push (first ∷ es) e n numbered is = (numbered.0, numbered-push es e (n + 1) numbered.1 (omega arith))
 
+-- the histories once one is replaced
 same_at : (hs : List (List Entry)) (s : ℕ) (h : List Entry) → s < length hs → history_at (set hs s h) s ≡ h
 same_at hs s h within = get_or-set_same hs s h [] within
 
@@ -96,7 +99,8 @@ stepped_push hs s moment command answer h new own within h-is new-is answer-is =
       elsewhere = λ q differ. (other_at hs s q new differ, other_at hs s q new differ);
     }
 
-no_history : (n s : ℕ) → history_at (replicate n []) s ≡ []
+-- shards without an entry
+pub no_history : (n s : ℕ) → history_at (replicate n []) s ≡ []
 no_history zero s = refl
 no_history (suc n) zero = refl
 no_history (suc n) (suc s) = no_history n s

@@ -18,18 +18,21 @@ use Rattle.gcs_meaning.specs.Step.{put_step, next_generation}
 abbrev pub slot_with : Option State → ℕ → ℕ → ℕ → ℕ → Slot
 slot_with alive moment object bucket upload = record { alive = alive; graves = []; last_moment = moment; last_object = object; last_bucket = bucket; next_upload = upload }
 
+-- the bucket isn't alive
 pub put_dead : (alive : Option State) (m o b u t : ℕ) (name : List ℕ) (pre : Pre) (meta : Meta) (hashed : Digested) (components : Option ℕ) (expect : Expect)
     → alive ≡ None
     → put_step (aged (slot_with alive m o b u) t) t name pre meta hashed components expect ≡ (Refused NoBucket, slot_with alive t o b u)
 unfolding put_step aged_graves
 put_dead alive m o b u t name pre meta hashed components expect dead = rw dead refl
 
+-- a test fails, after ageing
 pub put_refused : (alive : Option State) (m o b u t : ℕ) (name : List ℕ) (pre : Pre) (meta : Meta) (hashed : Digested) (components : Option ℕ) (expect : Expect) (before state : State) (reason : Reason)
     → alive ≡ Some before → state ≡ aged_state t before → Some reason ≡ put_refusal pre expect hashed (live_row name state.rows)
     → put_step (aged (slot_with alive m o b u) t) t name pre meta hashed components expect ≡ (Refused reason, slot_with (Some state) t o b u)
 unfolding put_step aged_graves
 put_refused alive m o b u t name pre meta hashed components expect before state reason lives is refused = rw (lives, ← is, ← refused) refl
 
+-- the version is made
 pub put_done : (alive : Option State) (m o b u t g : ℕ) (name : List ℕ) (pre : Pre) (meta : Meta) (hashed : Digested) (components : Option ℕ) (expect : Expect) (before state after : State) (row shown : Row) (from settings : Settings)
     → alive ≡ Some before → state ≡ aged_state t before → from ≡ state.settings → g ≡ next_generation t o
     → None ≡ put_refusal pre expect hashed (live_row name state.rows) → row ≡ new_row from t g name meta hashed components

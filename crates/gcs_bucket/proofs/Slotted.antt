@@ -20,17 +20,20 @@ use Rattle.gcs_meaning.specs.Step.{step, IsSmall}
 use Rattle.gcs_bucket.specs.Shard.{IsSlotAt, IsSteppedAt, AreSmall, with_second, IsShard}
 use Rattle.gcs_bucket.proofs.Firsts.{set-map_at}
 
+-- the element at a place
 slice_get-is : {X : Type 0} → (xs : List X) (i : ℕ) (d y : X) → slice_get xs i ≡ Some y → get_or xs i d ≡ y
 slice_get-is [] i d y is = grind arith
 slice_get-is (x ∷ xs) zero d y is = grind arith
 slice_get-is (x ∷ xs) (suc i) d y is = slice_get-is xs i d y is
 
+-- where the name is equal, its slot is the first one, and is replaced there
 slot_here : (name : List ℕ) (p : List ℕ × Slot) (ps : Slots) → slice_cmp nat_cmp name p.0 ≡ Equal → slot_of name (p ∷ ps) ≡ Some p.1
 slot_here name p ps e = rw e refl
 
 set_here : (name : List ℕ) (slot : Slot) (p : List ℕ × Slot) (ps : Slots) → slice_cmp nat_cmp name p.0 ≡ Equal → with_slot name slot (p ∷ ps) ≡ with_second slot p ∷ ps
 set_here name slot p ps e = rw e refl
 
+-- the slot of a name stands at the place where the names before it were smaller
 pub slot_at : (name : List ℕ) (slots : Slots) (i : ℕ) (p : List ℕ × Slot) → i < length slots → p ≡ get_or slots i p → slice_cmp nat_cmp name p.0 ≡ Equal → slot_of name slots ≡ slot_of name (drop i slots) → ((slot : Slot) → with_slot name slot slots ≡ take i slots ++ with_slot name slot (drop i slots)) → IsSlotAt name slots i
 slot_at name slots i p within is equal found set_front =
     let rest : drop i slots ≡ p ∷ drop (suc i) slots = drop-cons slots i p within ∙ ap (λ q. q ∷ drop (suc i) slots) (sym is) in
@@ -42,11 +45,13 @@ slot_at name slots i p within is equal found set_front =
           ∙ sym (set_split slots i (with_second slot (get_or slots i p)) within) ∙ set-map_at (with_second slot) slots i p within;
     }
 
+-- the slot at a place is small
 pub small_at : (slots : Slots) (i : ℕ) (d : List ℕ × Slot) → i < length slots → AreSmall slots → IsSmall (get_or slots i d).1
 small_at [] i d within h = absurd (omega arith)
 small_at (p ∷ ps) zero d within h = h.0
 small_at (p ∷ ps) (suc i) d within h = small_at ps i d (omega arith) h.1
 
+-- a write of what a step leaves
 pub stepped_at : (slots : Slots) (i : ℕ) (p : List ℕ × Slot) (moment : ℕ) (command : Command) (answer : Answer) (slot : Slot) → i < length slots → p ≡ get_or slots i p → step p.1 moment command ≡ (answer, slot) → IsSteppedAt i moment command slots answer (slice_set slots i (p.0, slot))
 stepped_at slots i p moment command answer slot within is stepped = record {
   slot = slot;
@@ -54,12 +59,14 @@ stepped_at slots i p moment command answer slot within is stepped = record {
   new_is = ap (λ q. set slots i (with_second slot q)) is ∙ set-map_at (with_second slot) slots i p within;
 }
 
+-- a step of the slot that was found is one of the shard
 pub found_step : (name : List ℕ) (slots : Slots) (place moment : ℕ) (command : Command) (answer : Answer) (new : Slots) → bucket_of command ≡ Some name → IsSlotAt name slots place → IsSteppedAt place moment command slots answer new → shard_step slots moment command ≡ (answer, new)
 unfolding shard_step
 found_step name slots place moment command answer new named found stepped =
     let at = slice_get-get_or slots place ([], fresh_slot) found.within in
     rw (named, found.slot_is _ at, stepped.stepped _ at, found.set_is stepped.slot, ← stepped.new_is) refl
 
+-- the slots of a history below 2^59 entries have room for one more step
 pub small_from_within : (n : ℕ) (slots : Slots) → n ≤ 2 ^ 59 → AreWithin n slots → AreSmall slots
 small_from_within n [] few h = tt
 small_from_within n (p ∷ ps) few h = (record { moment = omega (arith, h.0.moment); object = omega (arith, h.0.object); bucket = omega (arith, h.0.bucket) }, small_from_within n ps few h.1)
@@ -67,6 +74,7 @@ small_from_within n (p ∷ ps) few h = (record { moment = omega (arith, h.0.mome
 pub small_from_shard : (slots : Slots) (history : List Entry) → IsShard slots history → AreSmall slots
 small_from_shard slots history h = small_from_within (length history) slots (omega (arith, h.few)) (subst (AreWithin (length history)) (sym h.replayed) (replay_within history))
 
+-- one more entry, with the slots that its step leaves
 pub shard_push : (slots new : Slots) (history : List Entry) (e : Entry) (answer : Answer) → slots ≡ replay history → length history + 1 < 2 ^ 59 → shard_step slots e.moment e.command ≡ (answer, new) → IsShard new (history ++ e ∷ [])
 shard_push slots new history e answer replayed few stepped = record {
   replayed = sym (ap (λ r. r.1) stepped) ∙ ap (λ s. (shard_step s e.moment e.command).1) replayed ∙ sym (replay-push history e);

@@ -20,18 +20,22 @@ use Rattle.gcs_meaning.proofs.Fitting.{fit_is_kept}
 use Rattle.gcs_meaning.proofs.Reading.{get_same}
 use Rattle.gcs_bucket.specs.Living.{AreLimited, IsSound}
 
+-- the slot before the first insert
 pub fresh_sound : IsSound fresh_slot
 fresh_sound = record { fit = fit_is_kept.fresh; limits = tt }
 
+-- ageing leaves the settings
 aged_limited : (t : ℕ) (alive : Option State) → AreLimited alive → AreLimited (aged_alive t alive)
 unfolding aged_state
 aged_limited t None h = h
 aged_limited t (Some s) h = h
 
+-- a bucket is made within the limits
 insert_limited : (alive : Option State) (slot : Slot) (t : ℕ) (name : List ℕ) (settings : Settings) → AreBuilt settings → AreLimited slot.alive → AreLimited (insert_on alive slot t name settings).1.alive
 insert_limited (Some s) slot t name settings built h = h
 insert_limited None slot t name settings built h = record { period = built.limits.period; duration = built.limits.duration }
 
+-- a put leaves the settings
 tested_limited : (refusal : Option Reason) (slot : Slot) (t : ℕ) (s : State) (row : Row) → Some s ≡ slot.alive → AreLimited slot.alive → AreLimited (put_tested refusal slot s t row).1.alive
 unfolding put_state
 tested_limited (Some reason) slot t s row is h = h
@@ -43,6 +47,7 @@ put_limited (Some s) slot t name pre meta hashed components expect is h =
     tested_limited (put_refusal pre expect hashed (live_row name s.rows)) slot t s
     (new_row s.settings t (next_generation t slot.last_object) name meta hashed components) is h
 
+-- one command, on a slot that is aged
 command_limited : (command : Command) (slot : Slot) (t : ℕ) → IsBuilt command → AreLimited slot.alive → AreLimited (command_step slot t command).1.alive
 unfolding insert_step put_step
 command_limited (BucketInsert bucket settings) slot t built h = insert_limited slot.alive slot t bucket settings built h
@@ -51,6 +56,7 @@ command_limited (Get bucket name generation soft pre) slot t built h =
     subst (λ (after : Slot). AreLimited after.alive) (sym (get_same slot name generation pre)) h
 command_limited _ slot t built h = h
 
+-- one step
 step_sound : (slot : Slot) (moment : ℕ) (command : Command) → IsBuilt command → IsSound slot → IsSound (step slot moment command).1
 step_sound slot moment command built h =
     let t : ℕ = effective_moment slot.last_moment moment in

@@ -1,5 +1,5 @@
 //! The desk of a program that shares its store with nobody.
-ghost use Rattle.std.specs.Prelude.{◌≡◌, ◌<◌, [], IfOk, replicate};
+ghost use Rattle.std.specs.Prelude.{◌≡◌, ◌<◌, ℕ, [], IfOk};
 ghost use Rattle.gcs_meaning.specs.Desk.{AreLists, Moves};
 ghost use Rattle.gcs_meaning.specs.Step.{IsBuilt};
 ghost use Rattle.gcs_bucket.specs.Desk.{AreOwn, history_at};
@@ -34,7 +34,7 @@ impl<'c> Model for PlainDesk<'c> {
 impl<'c> PlainDesk<'c> {
     /// Sixteen shards without an entry, whose contents are of these chunks. `Err`: no memory.
     pub fn new(alloc: Global, chunks: &'c Chunks) -> Result<PlainDesk<'c>, AllocError>
-        ensures { IfOk result (λ desk. desk ≡ replicate 16 []) }
+        ensures { IfOk result (λ desk. (s : ℕ) → history_at desk s ≡ []) }
     {
         let mut shards = Vec::with_capacity(alloc, 16)?;
         for _ in 0..16u32 {

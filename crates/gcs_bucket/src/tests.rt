@@ -1,11 +1,11 @@
-// What commands do to a shard and a desk.
+// What commands do to a shard and a desk. All contents are empty.
 ghost use Rattle.std.specs.Prelude.{◌≡◌, ◌<◌, IfOk, Some};
 ghost use Rattle.gcs_meaning.specs.Desk.{IsOf};
 ghost use Rattle.gcs_meaning.specs.History.{bucket_of};
 ghost use Rattle.gcs_meaning.specs.Step.{AreBuilt, IsBuilt, IsUnheld};
 
 use crate::{PlainDesk, Shard};
-use gcs_chunks::{Chunks, Content, Piece};
+use gcs_chunks::{Chunks, Content};
 use gcs_meaning::{
     Answer, BucketName, Command, Desk, Digest, Expect, Hashed, Kind, List, Meta, Name, Pairs, Pre,
     Reason, Row, Settings, Text, Unheld, shard_of,
@@ -16,6 +16,8 @@ use std::test::Fail;
 const START: u64 = 1_700_000_000_000_000;
 
 const WEEK: u64 = 604_800_000_000;
+
+const CRC_OF_DIGITS: u32 = 0xE306_9283;
 
 /// What a test looks at of an answer: zeros and the reason where it is a refusal.
 #[derive(Clone, Copy, Debug, PartialEq, Eq)]
@@ -93,16 +95,6 @@ fn metadata(alloc: Global, content_type: Text) -> Meta
     }
 }
 
-// The nine digits, by which catalogues of CRCs give their check values.
-#[tactic(auto, unfolding(gcs_chunks::specs::Content::bytes_of, gcs_chunks::specs::Content::no_content))]
-fn digits(alloc: Global, chunks: &Chunks) -> Result<Hashed, AllocError> {
-    let bytes = Vec::from_slice(alloc, b"123456789")?;
-    let piece = Piece::own(alloc, bytes)?;
-    let mut content = Content::empty(alloc);
-    content.append(&piece, 0, 9)?;
-    Ok(Hashed::of(content, chunks))
-}
-
 const NO_PRECONDITION: Pre = Pre {
     generation_is: None,
     generation_not: None,
@@ -110,10 +102,26 @@ const NO_PRECONDITION: Pre = Pre {
     metageneration_not: None,
 };
 
+fn put_of(bucket: BucketName, name: Name, meta: Meta, hashed: Hashed, expect: Expect) -> Command
+    requires { IsUnheld meta }
+    ensures built { IsBuilt result }
+    ensures bucket { bucket_of result ≡ Some bucket }
+{
+    Command::Put {
+        bucket,
+        name,
+        pre: NO_PRECONDITION,
+        meta,
+        hashed,
+        components: None,
+        expect,
+    }
+}
+
 fn put_command(
     alloc: Global,
+    chunks: &Chunks,
     bucket: BucketName,
-    hashed: Hashed,
     expect: Expect,
 ) -> Result<Command, AllocError>
     ensures built { IfOk result IsBuilt }
@@ -121,15 +129,9 @@ fn put_command(
 {
     let name = Name::new(Text::from_str(alloc, "a")?);
     let content_type = Text::from_str(alloc, "text/plain")?;
-    Ok(Command::Put {
-        bucket,
-        name,
-        pre: NO_PRECONDITION,
-        meta: metadata(alloc, content_type),
-        hashed,
-        components: None,
-        expect,
-    })
+    let meta = metadata(alloc, content_type);
+    let hashed = Hashed::of(Content::empty(alloc), chunks);
+    Ok(put_of(bucket, name, meta, hashed, expect))
 }
 
 fn get_command(alloc: Global, bucket: BucketName) -> Result<Command, AllocError>
@@ -180,8 +182,7 @@ fn put(
     moment: u64,
     expect: Expect,
 ) -> Result<Shown, AllocError> {
-    let hashed = digits(alloc, chunks)?;
-    let command = put_command(alloc, tub(alloc)?, hashed, expect)?;
+    let command = put_command(alloc, chunks, tub(alloc)?, expect)?;
     step(shard, number, moment, command)
 }
 
@@ -216,23 +217,33 @@ const ANY_DIGEST: Expect = Expect {
     md5: None,
 };
 
+// An insert and two puts at one moment, of which the later ones are shown.
+fn put_twice(
+    shard: &mut Shard<'_>,
+    alloc: Global,
+    chunks: &Chunks,
+    second: u64,
+) -> Result<[Shown; 2], AllocError> {
+    insert(shard, alloc)?;
+    let first = put(shard, alloc, chunks, 1, START, ANY_DIGEST)?;
+    let second = put(shard, alloc, chunks, 2, second, ANY_DIGEST)?;
+    Ok([first, second])
+}
+
 #[test]
 fn two_uploads_at_one_moment_get_rising_generations(rt: HostRuntime) -> Result<(), Fail> {
     let alloc = rt.alloc();
     let chunks = Chunks::new(alloc)?;
     let mut shard = Shard::new(alloc, &chunks);
-    insert(&mut shard, alloc)?;
-    let first = put(&mut shard, alloc, &chunks, 1, START, ANY_DIGEST)?;
-    let second = put(&mut shard, alloc, &chunks, 2, START, ANY_DIGEST)?;
-    assert_eq!(rt;
-        [first, second],
-        [made(START, START), made(START + 1, START)]
-    );
+    let seen = put_twice(&mut shard, alloc, &chunks, START);
+    let kinds = kinds(&shard, alloc);
+    drop(shard);
+    assert_eq!(rt; seen?, [made(START, START), made(START + 1, START)]);
     let replaced = Kind::Soft {
         at: START,
         hard: START + WEEK,
     };
-    assert_eq!(rt; kinds(&shard, alloc)?, [Some(replaced), Some(Kind::Live)]);
+    assert_eq!(rt; kinds?, [Some(replaced), Some(Kind::Live)]);
     Ok(())
 }
 
@@ -241,11 +252,24 @@ fn an_earlier_reading_does_not_turn_the_moment_back(rt: HostRuntime) -> Result<(
     let alloc = rt.alloc();
     let chunks = Chunks::new(alloc)?;
     let mut shard = Shard::new(alloc, &chunks);
-    insert(&mut shard, alloc)?;
-    put(&mut shard, alloc, &chunks, 1, START, ANY_DIGEST)?;
-    let later = put(&mut shard, alloc, &chunks, 2, START - 5, ANY_DIGEST)?;
-    assert_eq!(rt; later, made(START + 1, START));
+    let seen = put_twice(&mut shard, alloc, &chunks, START - 5);
+    drop(shard);
+    assert_eq!(rt; seen?, [made(START, START), made(START + 1, START)]);
     Ok(())
+}
+
+// The first kind that is kept when the week is nearly over, and when it is.
+fn kinds_after_a_week(
+    shard: &mut Shard<'_>,
+    alloc: Global,
+    chunks: &Chunks,
+) -> Result<[Option<Kind>; 2], AllocError> {
+    put_twice(shard, alloc, chunks, START)?;
+    get(shard, alloc, 3, START + WEEK - 1)?;
+    let before = kinds(shard, alloc)?;
+    get(shard, alloc, 4, START + WEEK)?;
+    let after = kinds(shard, alloc)?;
+    Ok([before[0], after[0]])
 }
 
 #[test]
@@ -253,44 +277,56 @@ fn a_soft_deleted_version_is_gone_at_its_hard_time(rt: HostRuntime) -> Result<()
     let alloc = rt.alloc();
     let chunks = Chunks::new(alloc)?;
     let mut shard = Shard::new(alloc, &chunks);
-    insert(&mut shard, alloc)?;
-    put(&mut shard, alloc, &chunks, 1, START, ANY_DIGEST)?;
-    put(&mut shard, alloc, &chunks, 2, START, ANY_DIGEST)?;
-    for (number, moment, live_place) in [(3, START + WEEK - 1, 1), (4, START + WEEK, 0)] {
-        let read = get(&mut shard, alloc, number, moment)?;
-        assert_eq!(rt; read, made(START + 1, START));
-        let kinds = kinds(&shard, alloc)?;
-        assert!(rt; kinds[live_place] == Some(Kind::Live), "at {moment}");
-    }
+    let seen = kinds_after_a_week(&mut shard, alloc, &chunks);
+    drop(shard);
+    let replaced = Kind::Soft {
+        at: START,
+        hard: START + WEEK,
+    };
+    assert_eq!(rt; seen?, [Some(replaced), Some(Kind::Live)]);
     Ok(())
 }
 
-// The digests of the nine digits are those of a worked exchange with the service.
+fn put_with_digests(
+    shard: &mut Shard<'_>,
+    alloc: Global,
+    chunks: &Chunks,
+) -> Result<[Option<Reason>; 2], AllocError> {
+    insert(shard, alloc)?;
+    let both_wrong = Expect {
+        crc: Some(CRC_OF_DIGITS),
+        md5: Some([0; 16]),
+    };
+    let first = put(shard, alloc, chunks, 1, START, both_wrong)?;
+    let md5_wrong = Expect {
+        crc: Some(0),
+        md5: Some([0; 16]),
+    };
+    let second = put(shard, alloc, chunks, 2, START, md5_wrong)?;
+    Ok([first.refused, second.refused])
+}
+
+// The MD5 of no bytes is in RFC 1321, A.5.
 #[test]
 fn a_wrong_digest_is_refused_the_crc_first(rt: HostRuntime) -> Result<(), Fail> {
     let alloc = rt.alloc();
     let chunks = Chunks::new(alloc)?;
     let mut shard = Shard::new(alloc, &chunks);
-    insert(&mut shard, alloc)?;
-    let crc = 0xE306_9283;
+    let seen = put_with_digests(&mut shard, alloc, &chunks);
+    drop(shard);
     let md5 = [
-        0x25, 0xF9, 0xE7, 0x94, 0x32, 0x3B, 0x45, 0x38, 0x85, 0xF5, 0x18, 0x1F, 0x1B, 0x62, 0x4D,
-        0x0B,
+        0xD4, 0x1D, 0x8C, 0xD9, 0x8F, 0x00, 0xB2, 0x04, 0xE9, 0x80, 0x09, 0x98, 0xEC, 0xF8, 0x42,
+        0x7E,
     ];
-    let cases = [
-        (1, 0, Digest::Crc(0), Digest::Crc(crc)),
-        (2, crc, Digest::Md5([0; 16]), Digest::Md5(md5)),
-    ];
-    for (number, crc, given, found) in cases {
-        let expect = Expect {
-            crc: Some(crc),
-            md5: Some([0; 16]),
-        };
-        let answer = put(&mut shard, alloc, &chunks, number, START, expect)?;
-        let reason = Reason::HashDiffers { given, found };
-        assert_eq!(rt; answer.refused, Some(reason));
-    }
-    assert_eq!(rt; kinds(&shard, alloc)?, [None, None]);
+    let crc_refusal = Reason::HashDiffers {
+        given: Digest::Crc(CRC_OF_DIGITS),
+        found: Digest::Crc(0),
+    };
+    let md5_refusal = Reason::HashDiffers {
+        given: Digest::Md5([0; 16]),
+        found: Digest::Md5(md5),
+    };
+    assert_eq!(rt; seen?, [Some(crc_refusal), Some(md5_refusal)]);
     Ok(())
 }
 
@@ -328,10 +364,23 @@ fn insert_and_put(
     let inserted = call(desk, START, shard, command)?;
     let bucket = tub(alloc)?;
     let shard = shard_of(bucket.as_bytes());
-    let hashed = digits(alloc, chunks)?;
-    let command = put_command(alloc, bucket, hashed, ANY_DIGEST)?;
+    let command = put_command(alloc, chunks, bucket, ANY_DIGEST)?;
     let stored = call(desk, START, shard, command)?;
     Ok([inserted, stored])
+}
+
+fn lengths(desk: &PlainDesk<'_>) -> [usize; 2] {
+    [
+        desk.shard(10).history().len(),
+        desk.shard(11).history().len(),
+    ]
+}
+
+fn publish(desk: &mut PlainDesk<'_>, alloc: Global) -> Result<usize, AllocError> {
+    let mut bytes = List::new(alloc);
+    bytes.push(7u8)?;
+    let piece = desk.publish(bytes)?;
+    Ok(piece.as_slice().len())
 }
 
 // The bytes of "tub" sum to 331, which is 11 modulo 16.
@@ -340,14 +389,13 @@ fn a_call_makes_an_entry_in_the_shard_of_its_bucket(rt: HostRuntime) -> Result<(
     let alloc = rt.alloc();
     let chunks = Chunks::new(alloc)?;
     let mut desk = PlainDesk::new(alloc, &chunks)?;
-    let shown = insert_and_put(&mut desk, alloc, &chunks)?;
-    assert_eq!(rt; shown, [made(START, START), made(START, START)]);
-    assert_eq!(rt; desk.shard(11).history().len(), 2);
-    assert_eq!(rt; desk.shard(10).history().len(), 0);
+    let seen = insert_and_put(&mut desk, alloc, &chunks);
+    let lengths = lengths(&desk);
     desk.known();
-    let mut bytes = List::new(alloc);
-    bytes.push(7u8)?;
-    let piece = desk.publish(bytes)?;
-    assert_eq!(rt; piece.as_slice(), [7u8].as_slice());
+    let published = publish(&mut desk, alloc);
+    drop(desk);
+    assert_eq!(rt; seen?, [made(START, START), made(START, START)]);
+    assert_eq!(rt; lengths, [0, 2]);
+    assert_eq!(rt; published?, 1);
     Ok(())
 }
