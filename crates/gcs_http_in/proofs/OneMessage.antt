@@ -1,5 +1,5 @@
 -- A text begins with at most one message.
-use Rattle.std.proofs.Common.{◌≡◌, ℕ, ◌+◌, Bool, List, ◌++◌, length, refl, ap, sym, ◌∙◌, subst, arith, append_assoc, zero-add, inl, inr, Option, Some, None}
+use Rattle.std.proofs.Common.{◌≡◌, ℕ, ◌+◌, Bool, List, ◌++◌, length, refl, ap, sym, ◌∙◌, subst, arith, zero-add, inl, inr, Option, Some, None}
 use Rattle.std.specs.Prelude.{◌==◌, ◌&&◌, not}
 use Rattle.gcs_http_in.specs.declared.limits.Limits.{Limits}
 use Rattle.gcs_http_in.specs.declared.fault.FrameFault.{FrameFault}

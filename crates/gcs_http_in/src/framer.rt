@@ -124,6 +124,15 @@ impl Framer {
         self.head.target()
     }
 
+    /// Its version's second number: 0 or 1.
+    pub fn minor(&self) -> u8
+        requires { IsInMessage self.now }
+        ensures { (bytes : List ℕ) (messages : List Message) (it : Current)
+            → Stands self.now bytes messages (Some it) → result ≡ it.head.minor }
+    {
+        self.head.minor()
+    }
+
     /// The value of its first field of a name, which is compared without regard to case; blanks round the value are
     /// dropped.
     pub fn field(&self, name: &[u8]) -> Option<&[u8]>

@@ -17,6 +17,6 @@ mod tests;
 
 pub use fault::FrameFault;
 pub use framer::Framer;
-pub use laws::{law_one_reading, law_reads};
+pub use laws::{law_bounded, law_one_reading, law_reads};
 pub use limits::Limits;
 pub use state::Taken;

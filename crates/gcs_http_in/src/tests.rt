@@ -270,6 +270,7 @@ fn a_head_has_its_parts(rt: HostRuntime) -> Result<(), Fail> {
         assert_eq!(rt; taken, text.len());
         assert_eq!(rt; framer.method(), b"POST".as_slice());
         assert_eq!(rt; framer.target(), b"/a?b".as_slice());
+        assert_eq!(rt; framer.minor(), 1);
         assert_eq!(rt; framer.field(b"X-Y"), Some(b"1".as_slice()));
         assert_eq!(rt; framer.field(b"Accept"), None);
     } else {
