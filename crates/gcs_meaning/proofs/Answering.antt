@@ -1,5 +1,5 @@
 -- Each command gets an answer of its kind, and an answer is found by its entry's numbers.
-use Rattle.std.proofs.Common.{◌≡◌, ◌≢◌, ℕ, Bool, true, false, List, [], ◌∷◌, ◌++◌, Option, Some, None, refl, ap, sym, subst, ◌∙◌, eq-eqb, arith}
+use Rattle.std.proofs.Common.{◌≡◌, ℕ, Bool, true, false, List, [], ◌∷◌, ◌++◌, Option, Some, None, refl, ap, sym, subst, ◌∙◌, eq-eqb, arith}
 use Rattle.std.specs.Prelude.{◌==◌, ◌&&◌, if◌then◌else◌}
 use Rattle.std.specs.List.{AllByRecursion}
 use Rattle.gcs_meaning.specs.declared.settings.Settings.{Settings}
@@ -8,20 +8,17 @@ use Rattle.gcs_meaning.specs.declared.settings.Meta.{Meta}
 use Rattle.gcs_meaning.specs.declared.version.Row.{Row}
 use Rattle.gcs_meaning.specs.declared.version.Expect.{Expect}
 use Rattle.gcs_meaning.specs.declared.reason.Reason.{Reason}
-use Rattle.gcs_meaning.specs.declared.reason.Reason.TheVariants.{NoBucket}
-use Rattle.gcs_meaning.specs.declared.command.Answer.{Answer}
-use Rattle.gcs_meaning.specs.declared.command.Answer.TheVariants.{Refused}
 use Rattle.gcs_meaning.specs.declared.command.Command.{Command}
-use Rattle.gcs_meaning.specs.declared.command.Command.TheVariants.{BucketInsert, BucketList, BucketGet, BucketChange, BucketDelete, BucketLock, BucketRestore, List as Listing, Get, Change, Delete, Put, Compose, Restore, Start, Append, Finish, Cancel}
+use Rattle.gcs_meaning.specs.declared.command.Command.TheVariants.{BucketInsert, Get, Put}
 use Rattle.gcs_meaning.specs.declared.command.Entry.{Entry}
 use Rattle.gcs_meaning.specs.Content.{Digested}
 use Rattle.gcs_meaning.specs.Moment.{effective_moment}
 use Rattle.gcs_meaning.specs.Policy.{pre_refusal}
 use Rattle.gcs_meaning.specs.Slot.{State, Slot, fresh_slot}
 use Rattle.gcs_meaning.specs.Aging.{aged}
-use Rattle.gcs_meaning.specs.Put.{live_row, put_refusal, new_row}
-use Rattle.gcs_meaning.specs.Step.{IsBuilt, step, command_step, insert_on, insert_step, put_on, put_tested, put_step, next_generation, chosen_row, read_tested, read_found, get_on, get_step}
-use Rattle.gcs_meaning.specs.History.{Slots, bucket_of, set_slot, first_step, slot_step, slot_of, shard_step, replay_from, replay, is_entry, answer_from, answer_at, AnswersAt, AreDistinct}
+use Rattle.gcs_meaning.specs.Put.{live_row, put_refusal}
+use Rattle.gcs_meaning.specs.Step.{IsBuilt, step, command_step, insert_on, insert_step, put_on, put_tested, put_step, chosen_row, read_tested, read_found, get_on, get_step}
+use Rattle.gcs_meaning.specs.History.{Slots, first_step, slot_step, slot_of, shard_step, replay_from, replay, is_entry, answer_from, answer_at, AreDistinct}
 use Rattle.gcs_meaning.specs.Laws.{is_answer_to, AnswersFit}
 
 insert_kind : (alive : Option State) (slot : Slot) (t : ℕ) (bucket : List ℕ) (settings : Settings) → is_answer_to (BucketInsert bucket settings) (insert_on alive slot t bucket settings).0 ≡ true

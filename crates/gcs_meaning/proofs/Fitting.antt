@@ -1,16 +1,11 @@
 -- A slot that is fit stays fit.
-use Rattle.std.proofs.Common.{◌≡◌, ◌≢◌, ◌≤◌, ◌<◌, ◌+◌, ℕ, Bool, true, false, List, [], ◌∷◌, ◌++◌, Option, Some, None, length, refl, ap, sym, subst, ◌∙◌, arith}
+use Rattle.std.proofs.Common.{◌≡◌, ◌≢◌, ◌≤◌, ◌<◌, ◌+◌, ℕ, Bool, true, false, List, [], ◌∷◌, ◌++◌, Option, Some, None, length, refl, ap, sym, subst, arith}
 use Rattle.std.specs.Prelude.{filter, map, nat_lt, nat_le, if◌then◌else◌}
 use Rattle.std.specs.List.{AllByRecursion}
-use Rattle.std.specs.declared.cmp.Ordering.{Ordering}
 use Rattle.std.proofs.lemmas.Bool.Decides.{nat_tests}
-use Rattle.gcs_chunks.specs.Content.{bytes_of}
 use Rattle.gcs_meaning.specs.declared.settings.Settings.{Settings}
-use Rattle.gcs_meaning.specs.declared.settings.Retention.{Retention}
 use Rattle.gcs_meaning.specs.declared.settings.Pre.{Pre}
 use Rattle.gcs_meaning.specs.declared.settings.Meta.{Meta}
-use Rattle.gcs_meaning.specs.declared.version.Kind.{Kind}
-use Rattle.gcs_meaning.specs.declared.version.Kind.TheVariants.{Live, Noncurrent, Soft}
 use Rattle.gcs_meaning.specs.declared.version.Row.{Row}
 use Rattle.gcs_meaning.specs.declared.version.Expect.{Expect}
 use Rattle.gcs_meaning.specs.declared.policy.Retired.{Retired}
@@ -26,12 +21,12 @@ use Rattle.gcs_meaning.specs.Content.{Digested, bytes_in}
 use Rattle.gcs_meaning.specs.Tests.{largest_object, or_else, size_refusal}
 use Rattle.gcs_meaning.specs.Moment.{effective_moment}
 use Rattle.gcs_meaning.specs.Policy.{pre_refusal, retired_to}
-use Rattle.gcs_meaning.specs.Uploads.{UploadMap, upload_time, expired_if, aged_upload, aged_uploads}
+use Rattle.gcs_meaning.specs.Uploads.{upload_time, expired_if, aged_upload, aged_uploads}
 use Rattle.gcs_meaning.specs.Slot.{State, Grave, Slot}
-use Rattle.gcs_meaning.specs.Aging.{kind_stays, aged_rows, aged_state, aged_alive, aged_grave, aged_graves, aged}
+use Rattle.gcs_meaning.specs.Aging.{kind_stays, aged_state, aged_alive, aged_grave, aged_graves, aged}
 use Rattle.gcs_meaning.specs.Put.{is_live_of, live_row, generation_of, metageneration_of, change_first, retired_row, is_before, with_row, hash_refusal, put_refusal, put_state, new_row}
-use Rattle.gcs_meaning.specs.Step.{AreBuilt, IsBuilt, step, command_step, insert_on, insert_step, put_on, put_tested, put_step, next_generation, new_state}
-use Rattle.gcs_meaning.specs.Fit.{IfThere, kind_began, IsFitRow, IsFitEnd, IsFitUpload, IsFitState, IsSoftUntil, IsFitGrave, living_generation, bucket_generations, Differ, IsFit}
+use Rattle.gcs_meaning.specs.Step.{AreBuilt, IsBuilt, command_step, insert_on, insert_step, put_on, put_tested, put_step, next_generation, new_state}
+use Rattle.gcs_meaning.specs.Fit.{IfThere, IsFitRow, IsFitEnd, IsFitUpload, IsFitState, IsSoftUntil, IsFitGrave, living_generation, bucket_generations, Differ, IsFit}
 use Rattle.gcs_meaning.specs.Laws.{FitIsKept}
 use Rattle.gcs_meaning.proofs.Reading.{get_same}
 

@@ -1,5 +1,5 @@
 -- What holds of every slot that steps can reach: its counters are not behind what it has, and its sizes are in the limits.
-use Rattle.std.specs.Prelude.{◌≡◌, ◌≢◌, ◌≤◌, ◌<◌, ℕ, length, List, [], ◌∷◌, ◌++◌, map, Option, Some, None}
+use Rattle.std.specs.Prelude.{◌≢◌, ◌≤◌, ◌<◌, ℕ, length, List, [], ◌∷◌, ◌++◌, map, Option, Some, None}
 use Rattle.std.specs.List.{AllByRecursion}
 use Rattle.gcs_chunks.specs.Content.{bytes_of}
 use Rattle.gcs_meaning.specs.declared.version.Kind.{Kind}

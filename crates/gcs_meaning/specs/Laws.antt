@@ -1,6 +1,5 @@
 -- Laws over every slot, history and command.
-use Rattle.std.specs.Prelude.{◌≡◌, ◌<◌, ℕ, Bool, true, false, List, [], ◌∷◌, ◌++◌, filter, Option, Some, None}
-use Rattle.std.specs.Str.{bytes_eq}
+use Rattle.std.specs.Prelude.{◌≡◌, ◌<◌, ℕ, Bool, true, false, List, [], ◌∷◌, ◌++◌, Some}
 use Rattle.gcs_meaning.specs.declared.command.Answer.{Answer}
 use Rattle.gcs_meaning.specs.declared.command.Answer.TheVariants.{Bucket, Object, Refused}
 use Rattle.gcs_meaning.specs.declared.command.Command.{Command}
@@ -9,7 +8,7 @@ use Rattle.gcs_meaning.specs.declared.command.Entry.{Entry}
 use Rattle.gcs_meaning.specs.Slot.{Slot, fresh_slot}
 use Rattle.gcs_meaning.specs.Fit.{IsFit}
 use Rattle.gcs_meaning.specs.Step.{step, IsBuilt}
-use Rattle.gcs_meaning.specs.History.{AnswersAt, AreDistinct, answer_at, answer_of, bucket_of, replay, slot_of}
+use Rattle.gcs_meaning.specs.History.{AnswersAt, AreDistinct, answer_at, answer_of}
 
 -- the command makes a version where it is done
 abbrev pub makes_version : Command → Bool

@@ -18,6 +18,8 @@ mod reason;
 mod refusals;
 mod rewriting;
 mod settings;
+#[cfg(test)]
+mod tests;
 mod text;
 mod uploading;
 mod version;
