@@ -1,0 +1,14 @@
+pub mod Tellings
+pub mod Steps
+pub mod Answered
+pub mod Endings
+pub mod Drops
+pub mod Cuts
+pub mod Pieces
+pub mod Texts
+pub mod Serving
+pub mod Alongs
+pub mod Gathering
+pub mod Feeding
+pub mod Starting
+pub mod Opened

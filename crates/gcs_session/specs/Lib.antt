@@ -1,0 +1,14 @@
+pub mod Calls
+pub mod Targets
+pub mod Scripts
+pub mod Replies
+pub mod Running
+pub mod Served
+pub mod Bodies
+pub mod Coming
+pub mod Unsent
+pub mod Session
+pub mod Connection
+pub mod Writing
+pub mod Along
+pub mod Alone
