@@ -1,5 +1,5 @@
 // Whole connections, byte for byte: what a client sends, what it is answered, and the status.
-ghost use Rattle.std.specs.Prelude.{◌<◌};
+ghost use Rattle.std.specs.Prelude.{◌≡◌, ◌<◌, IfOk};
 
 use crate::run_alone;
 use gcs_io::{ListClock, MemSink, MemSource};
@@ -42,21 +42,24 @@ const EMPTY: &str =
 const DIGITS: &str =
     "POST /upload/storage/v1/b/tub/o?uploadType=media&name=d HTTP/1.1\r\nHost: h\r\nContent-Length: 9\r\n\r\n123456789";
 
-// How a run goes: the piece size, the reads and writes that fail, and the readings of the clock.
+// How a run goes: the size of the pieces that are read, the reads and writes that fail, and the clock.
+#[derive(Drop)]
 struct Course {
     size: usize,
     reads: Vec<u32>,
     writes: Vec<u32>,
-    readings: Vec<u64>,
+    clock: ListClock,
 }
 
 impl Course {
-    fn smooth(alloc: Global) -> Result<Course, Fail> {
+    fn smooth(alloc: Global) -> Result<Course, Fail>
+        ensures { IfOk result (λ course. course.size ≡ 1000) }
+    {
         Ok(Course {
             size: 1000,
             reads: Vec::new(alloc),
             writes: Vec::new(alloc),
-            readings: vec![in alloc; START]?,
+            clock: ListClock::new(vec![in alloc; START]?),
         })
     }
 }
@@ -85,7 +88,7 @@ fn run_words(
     let mut source = MemSource::new(pieces, course.reads);
     let mut sink = MemSink::new(alloc, 4096, course.writes)?;
     let mut errors = MemSink::new(alloc, 100, Vec::new(alloc))?;
-    let mut clock = ListClock::new(course.readings);
+    let mut clock = course.clock;
     let status = run_alone(
         alloc,
         words,
@@ -154,7 +157,7 @@ fn generations_rise_at_one_reading_and_at_an_earlier_one(rt: HostRuntime) -> Res
     both.push_str(EMPTY)?;
     for last in [START, START - 5] {
         let mut course = Course::smooth(alloc)?;
-        course.readings = vec![in alloc; START, START, last]?;
+        course.clock = ListClock::new(vec![in alloc; START, START, last]?);
         let (status, sink) = run(alloc, both.as_str(), course)?;
         assert_eq!(rt; status, 0);
         assert!(rt; sink.written().starts_with(first.as_bytes()));
