@@ -106,6 +106,13 @@ impl Framer {
         Taken::More { taken: at }
     }
 
+    /// The limits that it was made with.
+    pub fn limits(&self) -> Limits
+        ensures { result ≡ limits_of self.now }
+    {
+        self.head.limits()
+    }
+
     /// The method of the message whose head was told.
     pub fn method(&self) -> &[u8]
         requires { IsInMessage self.now }

@@ -3,6 +3,8 @@
 #![tactic(auto)]
 
 mod chunked;
+#[cfg(test)]
+mod conversations;
 mod fault;
 mod fields;
 mod framer;

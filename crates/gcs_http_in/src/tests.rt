@@ -1,4 +1,4 @@
-//! What a framer tells of messages, and where it refuses them, in pieces of several sizes.
+//! What a framer tells of heads and bodies, and where it refuses them, in pieces of several sizes.
 ghost use Rattle.std.specs.Prelude.{◌<◌};
 ghost use Rattle.gcs_http_in.specs.Usual.{IsAllowed};
 
@@ -9,10 +9,7 @@ use std::test::Fail;
 
 const CHUNKED: &str = "PUT /a HTTP/1.1\r\nTransfer-Encoding: chunked\r\n\r\n";
 
-const UPLOAD: &str =
-    "POST /upload/storage/v1/b/tub/o?uploadType=media&name=a HTTP/1.1\r\nHost: h\r\nContent-Length: 0\r\n\r\n";
-
-fn name_of(fault: FrameFault) -> &'static str {
+pub fn name_of(fault: FrameFault) -> &'static str {
     match fault {
         FrameFault::HeadTooLong => "HeadTooLong",
         FrameFault::TooManyFields => "TooManyFields",
@@ -26,7 +23,7 @@ fn name_of(fault: FrameFault) -> &'static str {
 }
 
 // Adds what the framer tells of a piece: `<` and `keep ` or `close ` for a head, the content, `>` for an end.
-fn tell(framer: &mut Framer, told: &mut Vec<u8>, piece: &[u8]) -> Result<(), Fail> {
+pub fn tell(framer: &mut Framer, told: &mut Vec<u8>, piece: &[u8]) -> Result<(), Fail> {
     let mut rest = piece;
     for _ in 0..100_000 {
         let taken = match framer.feed(rest) {
@@ -74,7 +71,12 @@ fn events(alloc: Global, limits: &Limits, text: &str, size: usize) -> Result<Vec
 }
 
 // Each text gives these events, in pieces of one byte, of seven and as a whole.
-fn check(rt: &impl Abort, alloc: Global, limits: &Limits, rows: &[(&str, &str)]) -> Result<(), Fail>
+pub fn check(
+    rt: &impl Abort,
+    alloc: Global,
+    limits: &Limits,
+    rows: &[(&str, &str)],
+) -> Result<(), Fail>
     requires { IsAllowed limits.now }
 {
     for (text, wanted) in rows {
@@ -86,11 +88,17 @@ fn check(rt: &impl Abort, alloc: Global, limits: &Limits, rows: &[(&str, &str)])
     Ok(())
 }
 
-// The text with that many letters in the middle.
-fn padded(alloc: Global, front: &str, count: usize, back: &str) -> Result<String, Fail> {
+// The text with a part that many times in the middle.
+fn padded(
+    alloc: Global,
+    front: &str,
+    part: &str,
+    count: usize,
+    back: &str,
+) -> Result<String, Fail> {
     let mut text = String::from_str(alloc, front)?;
     for _ in 0..count {
-        text.push('x')?;
+        text.push_str(part)?;
     }
     text.push_str(back)?;
     Ok(text)
@@ -117,57 +125,98 @@ fn heads_end_at_their_empty_line(rt: HostRuntime) -> Result<(), Fail> {
 #[test]
 fn fields_say_how_a_body_is_cut(rt: HostRuntime) -> Result<(), Fail> {
     let rows = [
+        ("A: b", "", "<keep >."),
+        ("Content-Length: 3", "abc\r\n", "<keep abc>."),
         (
-            "PUT /a HTTP/1.1\r\nContent-Length: 3\r\n\r\nabc\r\n",
-            "<keep abc>.",
-        ),
-        (
-            "PUT /a HTTP/1.1\r\nContent-Length: 9\r\nContent-Length: 9\r\n\r\n123456789",
+            "Content-Length: 9\r\nContent-Length: 9",
+            "123456789",
             "<keep 123456789>.",
         ),
         (
-            "PUT /a HTTP/1.1\r\nContent-Length: 03\r\ncontent-length:\t3 \r\n\r\nabcd",
+            "Content-Length: 03\r\ncontent-length:\t3 ",
+            "abcd",
             "<keep abc>",
         ),
+        ("Content-Length: 000000000000000001", "a", "<keep a>."),
+        ("Content-Length: 1073741824", "", "<keep "),
+        ("Content-Length: 0000000000000000001", "a", "BadLength"),
+        ("Content-Length: 1\r\nContent-Length: 2", "", "BadLength"),
         (
-            "PUT /a HTTP/1.1\r\nContent-Length: 1\r\nContent-Length: 2\r\n\r\n",
+            "Content-Length: 1\r\nContent-Length: 1073741825",
+            "",
+            "BadLength",
+        ),
+        ("Content-Length: 1, 1", "", "BadLength"),
+        ("Content-Length: +1", "", "BadLength"),
+        ("Content-Length:", "", "BadLength"),
+        ("Content-Length: 1073741825", "", "BodyTooLong"),
+        ("Transfer-Encoding: CHUNKED", "0\r\n\r\n", "<keep >."),
+        ("Transfer-Encoding: gzip, chunked", "", "BadCoding"),
+        (
+            "Transfer-Encoding: chunked\r\nTransfer-Encoding: chunked",
+            "",
+            "BadCoding",
+        ),
+        (
+            "Content-Length: x\r\nTransfer-Encoding: gzip",
+            "",
+            "BadCoding",
+        ),
+        (
+            "Content-Length: x\r\nTransfer-Encoding: chunked",
+            "",
+            "BothLengths",
+        ),
+        (
+            "Content-Length: 1\r\nTransfer-Encoding: chunked",
+            "a",
+            "BothLengths",
+        ),
+    ];
+    for (fields, body, wanted) in rows {
+        let text = format!(in rt.alloc(); "PUT /a HTTP/1.1\r\n{fields}\r\n\r\n{body}")?;
+        check(&rt, rt.alloc(), &Limits::usual(), &[(&text, wanted)])?;
+    }
+    Ok(())
+}
+
+#[test]
+fn of_two_faults_the_first_is_told(rt: HostRuntime) -> Result<(), Fail> {
+    let small = Limits {
+        head: 62,
+        fields: 2,
+        body: 9,
+        ..Limits::usual()
+    };
+    let rows = [
+        (
+            "x\nA:\nA:\nA:\nA:\nA:\nA:\nA:\nA:\nA:\nA:\nA:\nA:\nA:\nA:\nA:\nA:\nA:\nA:\nA:\nA:\n\n",
+            "HeadTooLong",
+        ),
+        ("x\nA:\nA:\nA:\n\n", "TooManyFields"),
+        ("x\nTransfer-Encoding: gzip\n\n", "BadHead"),
+        (
+            "PUT / HTTP/1.1\nContent-Length: 10\nTransfer-Encoding: deflate\n\n",
+            "BadCoding",
+        ),
+        (
+            "PUT / HTTP/1.1\nContent-Length: 10\nTransfer-Encoding: chunked\n\n",
+            "BothLengths",
+        ),
+        (
+            "PUT / HTTP/1.1\nContent-Length: 10\nContent-Length: 11\n\n",
             "BadLength",
         ),
         (
-            "PUT /a HTTP/1.1\r\nContent-Length: 1, 1\r\n\r\n",
-            "BadLength",
-        ),
-        ("PUT /a HTTP/1.1\r\nContent-Length:\r\n\r\n", "BadLength"),
-        (
-            "PUT /a HTTP/1.1\r\nContent-Length: 000000000000000001\r\n\r\na",
-            "<keep a>.",
-        ),
-        (
-            "PUT /a HTTP/1.1\r\nContent-Length: 0000000000000000001\r\n\r\na",
-            "BadLength",
-        ),
-        (
-            "PUT /a HTTP/1.1\r\nContent-Length: 1073741825\r\n\r\n",
+            "PUT / HTTP/1.1\nContent-Length: 10\nContent-Length: 10\n\n",
             "BodyTooLong",
         ),
         (
-            "PUT /a HTTP/1.1\r\nContent-Length: 1\r\nTransfer-Encoding: chunked\r\n\r\n",
-            "BothLengths",
-        ),
-        (
-            "PUT /a HTTP/1.1\r\nContent-Length: x\r\nTransfer-Encoding: chunked\r\n\r\n",
-            "BothLengths",
-        ),
-        (
-            "PUT /a HTTP/1.1\r\nContent-Length: x\r\nTransfer-Encoding: gzip\r\n\r\n",
-            "BadCoding",
-        ),
-        (
-            "PUT /a HTTP/1.1\r\nTransfer-Encoding: chunked\r\nTransfer-Encoding: chunked\r\n\r\n",
-            "BadCoding",
+            "PUT / HTTP/1.1\nContent-Length: 9\nContent-Length: 9\n\n",
+            "<keep ",
         ),
     ];
-    check(&rt, rt.alloc(), &Limits::usual(), &rows)
+    check(&rt, rt.alloc(), &small, &rows)
 }
 
 #[test]
@@ -175,14 +224,22 @@ fn chunks_and_a_trailer_are_a_body(rt: HostRuntime) -> Result<(), Fail> {
     let rows = [
         ("5\r\n12345\r\n4\r\n6789\r\n0\r\n\r\n", "<keep 123456789>."),
         ("5;x=y\r\n12345\r\n00\r\nA: b\nC\n\nG", "<keep 12345>"),
+        ("0000000000000001\r\na\r\n0\r\n\r\n", "<keep a>."),
+        ("1", "<keep "),
         ("g\r\n", "<keep BadChunk"),
+        ("\r\n", "<keep BadChunk"),
         ("1\n", "<keep BadChunk"),
+        ("10000000000000000\r\n", "<keep BadChunk"),
         ("1\r\na\r", "<keep a"),
         ("1\r\na\rb", "<keep aBadChunk"),
         ("1\r\nab", "<keep a"),
+        ("1\r\na\n\n", "<keep aBadChunk"),
         ("1\r\nab\r\n0\r\n\r\n", "<keep aBadChunk"),
+        ("FFFFFFFFFFFFFFFF\r\n", "<keep BodyTooLong"),
         ("40000001\r\n", "<keep BodyTooLong"),
+        ("40000000\r\n", "<keep "),
         ("1\r\na\r\n40000000\r\n", "<keep aBodyTooLong"),
+        ("1\r\na\r\n3fffffff\r\n", "<keep a"),
     ];
     for (body, wanted) in rows {
         let text = format!(in rt.alloc(); "{CHUNKED}{body}")?;
@@ -194,21 +251,35 @@ fn chunks_and_a_trailer_are_a_body(rt: HostRuntime) -> Result<(), Fail> {
 #[test]
 fn limits_are_met_to_the_byte(rt: HostRuntime) -> Result<(), Fail> {
     let alloc = rt.alloc();
+    let fields = Limits::usual().fields as usize;
     let mut rows = Vec::new(alloc);
     rows.push((
-        padded(alloc, "G / HTTP/1.1\nA: ", 32_750, "\n\n")?,
+        padded(alloc, "G / HTTP/1.1\n", "A:\n", fields, "\n")?,
         "<keep >.",
     ))?;
     rows.push((
-        padded(alloc, "G / HTTP/1.1\nA: ", 32_751, "\n\n")?,
+        padded(alloc, "G / HTTP/1.1\n", "A:\n", fields + 1, "\n")?,
+        "TooManyFields",
+    ))?;
+    rows.push((
+        padded(alloc, "G / HTTP/1.1\nA: ", "x", 32_750, "\n\n")?,
+        "<keep >.",
+    ))?;
+    rows.push((
+        padded(alloc, "G / HTTP/1.1\nA: ", "x", 32_751, "\n\n")?,
         "HeadTooLong",
     ))?;
     let chunk = format!(in alloc; "{CHUNKED}0;")?;
-    rows.push((padded(alloc, &chunk, 252, "\r\n\r\n")?, "<keep >."))?;
-    rows.push((padded(alloc, &chunk, 254, "")?, "<keep BadChunk"))?;
+    rows.push((padded(alloc, &chunk, "x", 252, "\r\n\r\n")?, "<keep >."))?;
+    rows.push((padded(alloc, &chunk, "x", 253, "")?, "<keep "))?;
+    rows.push((padded(alloc, &chunk, "x", 254, "")?, "<keep BadChunk"))?;
     let trailer = format!(in alloc; "{CHUNKED}0\r\n")?;
-    rows.push((padded(alloc, &trailer, 32_766, "\n\n")?, "<keep >."))?;
-    rows.push((padded(alloc, &trailer, 32_767, "\n\n")?, "<keep BadChunk"))?;
+    rows.push((padded(alloc, &trailer, "x", 32_766, "\n\n")?, "<keep >."))?;
+    rows.push((padded(alloc, &trailer, "x", 32_767, "")?, "<keep "))?;
+    rows.push((
+        padded(alloc, &trailer, "x", 32_767, "\n")?,
+        "<keep BadChunk",
+    ))?;
     for (text, wanted) in rows.iter() {
         check(
             &rt,
@@ -228,7 +299,6 @@ fn limits_are_met_to_the_byte(rt: HostRuntime) -> Result<(), Fail> {
     let rows = [
         ("G / HTTP/1.1\nA:\n\n", "<keep >."),
         ("G / HTTP/1.1\nA:\nB:\n\n", "TooManyFields"),
-        ("\n\n\n\n\n\n\n\n\n\n\n\n\n\n\n\n\n\n\n\n", "HeadTooLong"),
         ("\n\n\n\n\n\nG / HTTP/1.1\n\n", "<keep >."),
         (
             "G / HTTP/1.1\n\nG / HTTP/1.1\n\nG / HTTP/1.1\n\n",
@@ -236,30 +306,6 @@ fn limits_are_met_to_the_byte(rt: HostRuntime) -> Result<(), Fail> {
         ),
     ];
     check(&rt, rt.alloc(), &small, &rows)
-}
-
-#[test]
-fn a_connection_is_read_as_its_messages(rt: HostRuntime) -> Result<(), Fail> {
-    let usual = Limits::usual();
-    let alloc = rt.alloc();
-    let refused = format!(in alloc; "{UPLOAD}x\r\n\r\n{UPLOAD}")?;
-    check(&rt, rt.alloc(), &usual, &[(&refused, "<keep >BadHead")])?;
-    let once = Limits {
-        requests: 1,
-        ..usual
-    };
-    let twice = format!(in alloc; "{UPLOAD}{UPLOAD}")?;
-    check(&rt, rt.alloc(), &once, &[(&twice, "<close >")])?;
-    let nine = Limits { body: 9, ..usual };
-    check(
-        &rt,
-        rt.alloc(),
-        &nine,
-        &[(
-            "PUT /a HTTP/1.1\r\nContent-Length: 10\r\n\r\n",
-            "BodyTooLong",
-        )],
-    )
 }
 
 #[test]
