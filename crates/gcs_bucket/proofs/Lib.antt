@@ -1,5 +1,5 @@
 pub mod Desks
 pub mod Firsts
-pub mod Putting
 pub mod Slotted
 pub mod Sound
+pub mod Steps

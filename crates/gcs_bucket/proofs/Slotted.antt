@@ -7,17 +7,21 @@ use Rattle.std.specs.Ordering.{nat_cmp}
 use Rattle.std.specs.Cmp.Lexicographic.{slice_cmp}
 use Rattle.std.specs.declared.cmp.Ordering.TheVariants.{Equal}
 use Rattle.gcs_meaning.specs.declared.command.Entry.{Entry}
-use Rattle.gcs_meaning.specs.Slot.{Slot, fresh_slot}
-use Rattle.gcs_meaning.specs.Bounds.{AreWithin}
+use Rattle.gcs_meaning.specs.Slot.{State, Slot, fresh_slot}
+use Rattle.gcs_meaning.specs.Bounds.{AreWithin, IsChangedAtMost, IsSmall}
+use Rattle.gcs_meaning.specs.Fit.{IfThere}
+use Rattle.gcs_meaning.proofs.Listed.{all-weaker, some-weaker}
 use Rattle.gcs_meaning.proofs.Bounded.{replay_within}
 use Rattle.gcs_meaning.proofs.Replays.{replay-push}
 use Rattle.std.proofs.lemmas.Option.{slice_get-get_or}
-use Rattle.gcs_meaning.specs.History.{Slots, slot_of, with_slot, bucket_of, shard_step, replay}
-use Rattle.std.specs.Prelude.{slice_set}
+use Rattle.gcs_meaning.specs.History.{Slots, slot_of, with_slot, bucket_of, set_slot, first_step, shard_step, replay}
+use Rattle.std.specs.Prelude.{insert, slice_set}
 use Rattle.gcs_meaning.specs.declared.command.Answer.{Answer}
+use Rattle.gcs_meaning.specs.declared.settings.Settings.{Settings}
 use Rattle.gcs_meaning.specs.declared.command.Command.{Command}
-use Rattle.gcs_meaning.specs.Step.{step, IsSmall}
-use Rattle.gcs_bucket.specs.Shard.{IsSlotAt, IsSteppedAt, AreSmall, with_second, IsShard}
+use Rattle.gcs_meaning.specs.declared.command.Command.TheVariants.{BucketInsert}
+use Rattle.gcs_meaning.specs.Step.{step}
+use Rattle.gcs_bucket.specs.Shard.{IsGapAt, IsSlotAt, IsSteppedAt, AreSmall, with_second, IsShard}
 use Rattle.gcs_bucket.proofs.Firsts.{set-map_at}
 
 -- the element at a place
@@ -66,13 +70,36 @@ found_step name slots place moment command answer new named found stepped =
     let at = slice_get-get_or slots place ([], fresh_slot) found.within in
     rw (named, found.slot_is _ at, stepped.stepped _ at, found.set_is stepped.slot, ← stepped.new_is) refl
 
+changed_more : (m n : ℕ) → m ≤ n → (s : State) → IsChangedAtMost m s → IsChangedAtMost n s
+changed_more m n above s h = record {
+  bucket = omega (arith, h.bucket);
+  rows = all-weaker (λ row. row.metageneration ≤ m) (λ row. row.metageneration ≤ n) (λ row few. omega (arith, few)) s.rows h.rows;
+}
+
 -- the slots of a history below 2^59 entries have room for one more step
 pub small_from_within : (n : ℕ) (slots : Slots) → n ≤ 2 ^ 59 → AreWithin n slots → AreSmall slots
 small_from_within n [] few h = tt
-small_from_within n (p ∷ ps) few h = (record { moment = omega (arith, h.0.moment); object = omega (arith, h.0.object); bucket = omega (arith, h.0.bucket) }, small_from_within n ps few h.1)
+small_from_within n (p ∷ ps) few h = (
+  record {
+    moment = omega (arith, h.0.moment);
+    object = omega (arith, h.0.object);
+    bucket = omega (arith, h.0.bucket);
+    changes = some-weaker (IsChangedAtMost n) (IsChangedAtMost (2 ^ 62)) (changed_more n (2 ^ 62) (omega (arith, few))) p.1.alive h.0.changes;
+  },
+  small_from_within n ps few h.1,
+)
 
 pub small_from_shard : (slots : Slots) (history : List Entry) → IsShard slots history → AreSmall slots
 small_from_shard slots history h = small_from_within (length history) slots (omega (arith, h.few)) (subst (AreWithin (length history)) (sym h.replayed) (replay_within history))
+
+-- an insert on a name without a slot makes it
+pub first_done : (name : List ℕ) (slots new : Slots) (place reading : ℕ) (command : Command) (bucket : List ℕ) (settings : Settings) (answer : Answer) (made : List ℕ × Slot)
+    → command ≡ BucketInsert bucket settings → IsGapAt name slots place → step fresh_slot reading command ≡ (answer, made.1) → made.0 ≡ name
+    → new ≡ insert slots place made → first_step name slots reading command ≡ (answer, new)
+first_done name slots new place reading command bucket settings answer made is gap done named new-is =
+    ap (first_step name slots reading) is
+    ∙ ap (set_slot name slots) (ap (step fresh_slot reading) (sym is) ∙ done)
+    ∙ ap (λ s. (answer, s)) (gap.set_is made.1 ∙ ap (λ n. insert slots place (n, made.1)) (sym named) ∙ sym new-is)
 
 -- one more entry, with the slots that its step leaves
 pub shard_push : (slots new : Slots) (history : List Entry) (e : Entry) (answer : Answer) → slots ≡ replay history → length history + 1 < 2 ^ 59 → shard_step slots e.moment e.command ≡ (answer, new) → IsShard new (history ++ e ∷ [])

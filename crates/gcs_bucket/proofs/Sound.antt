@@ -1,59 +1,143 @@
--- What every slot keeps, a step keeps.
-use Rattle.std.proofs.Common.{◌≡◌, ℕ, List, Option, Some, None, Result, Ok, Err, refl, ap, sym, subst}
+-- What every slot keeps, a step keeps; and a step can be made on it where its numbers leave room.
+use Rattle.std.proofs.Common.{◌≡◌, ◌≤◌, ◌<◌, ◌^◌, ℕ, Bool, true, false, List, [], ◌∷◌, Option, Some, None, Result, Ok, Err, refl, ap, sym, subst, inl, inr, arith}
 use Rattle.std.specs.Prelude.{IfOk, OnErr}
+use Rattle.std.specs.Option.{ForSome, option_map}
+use Rattle.std.specs.List.{AllByRecursion}
+use Rattle.gcs_meaning.specs.declared.changes.Set.{Set}
+use Rattle.gcs_meaning.specs.declared.changes.Set.TheVariants.{Keep, Clear, To}
+use Rattle.gcs_meaning.specs.declared.changes.SettingsChange.{SettingsChange}
+use Rattle.gcs_meaning.specs.declared.settings.Retention.{Retention}
 use Rattle.gcs_meaning.specs.declared.settings.Settings.{Settings}
-use Rattle.gcs_meaning.specs.declared.settings.Pre.{Pre}
-use Rattle.gcs_meaning.specs.declared.settings.Meta.{Meta}
 use Rattle.gcs_meaning.specs.declared.version.Row.{Row}
-use Rattle.gcs_meaning.specs.declared.version.Expect.{Expect}
-use Rattle.gcs_meaning.specs.declared.reason.Reason.{Reason}
 use Rattle.gcs_meaning.specs.declared.command.Answer.{Answer}
 use Rattle.gcs_meaning.specs.declared.command.Command.{Command}
-use Rattle.gcs_meaning.specs.declared.command.Command.TheVariants.{BucketInsert, Get, Put}
-use Rattle.gcs_meaning.specs.Content.{Digested}
+use Rattle.gcs_meaning.specs.declared.command.Command.TheVariants.{BucketInsert, BucketGet, BucketChange, BucketDelete, Get, Change, Delete, Put}
 use Rattle.gcs_meaning.specs.Moment.{effective_moment}
 use Rattle.gcs_meaning.specs.Slot.{State, Slot, fresh_slot}
-use Rattle.gcs_meaning.specs.Aging.{aged_state, aged_alive, aged}
-use Rattle.gcs_meaning.specs.Put.{live_row, new_row, put_refusal, put_state}
-use Rattle.gcs_meaning.specs.Step.{AreBuilt, IsBuilt, step, command_step, insert_on, insert_step, put_on, put_tested, put_step, next_generation}
+use Rattle.gcs_meaning.specs.Fit.{IfThere, IsFitRow, IsFitState}
+use Rattle.gcs_meaning.specs.Bounds.{IsSmall}
+use Rattle.gcs_meaning.specs.Aging.{kind_stays, aged_state, aged_alive, aged}
+use Rattle.gcs_meaning.specs.Policy.{AreInLimits, IsPeriod, IsDuration}
+use Rattle.gcs_meaning.specs.Buckets.{settings_since}
+use Rattle.gcs_meaning.specs.Choosing.{is_live_of, live_row}
+use Rattle.gcs_meaning.specs.Changes.{changed, changed_option, IfSet}
+use Rattle.gcs_meaning.specs.BucketChanges.{AreSetInLimits, changed_settings, changed_period, changed_duration, default_soft_seconds, policy_of}
+use Rattle.gcs_meaning.specs.ObjectChanges.{change_state}
+use Rattle.gcs_meaning.specs.Deletes.{delete_state}
+use Rattle.gcs_meaning.specs.Put.{put_state}
+use Rattle.gcs_meaning.specs.Step.{IsBuilt, step, command_step}
+use Rattle.gcs_meaning.proofs.Cases.{insert_cases, bucket_get_cases, bucket_change_cases, bucket_delete_cases, get_cases, change_cases, delete_cases, put_cases}
+use Rattle.gcs_meaning.proofs.Chosen.{all-find}
 use Rattle.gcs_meaning.proofs.Fitting.{fit_is_kept}
-use Rattle.gcs_meaning.proofs.Reading.{get_same}
-use Rattle.gcs_bucket.specs.Living.{AreLimited, IsSound}
+use Rattle.gcs_meaning.proofs.Listed.{all-filter, all-weaker}
+use Rattle.gcs_bucket.specs.Living.{AreLimited, AreEarly, IsEarly}
+use Rattle.gcs_bucket.specs.Slot.{IsSound, IsReady}
 
 -- the slot before the first insert
 pub fresh_sound : IsSound fresh_slot
 fresh_sound = record { fit = fit_is_kept.fresh; limits = tt }
 
--- ageing leaves the settings
-aged_limited : (t : ℕ) (alive : Option State) → AreLimited alive → AreLimited (aged_alive t alive)
+-- ageing leaves the settings, and takes versions away
+pub aged_limited : (t : ℕ) (alive : Option State) → AreLimited alive → AreLimited (aged_alive t alive)
 unfolding aged_state
 aged_limited t None h = h
 aged_limited t (Some s) h = h
 
+-- a policy that has a period in its limits
+abbrev HasPeriod : Option Retention → Type 0
+HasPeriod None = Unit {0}
+HasPeriod (Some policy) = IsPeriod policy.period
+
+abbrev IsPeriodIf : Option ℕ → Type 0
+IsPeriodIf None = Unit {0}
+IsPeriodIf (Some period) = IsPeriod period
+
+has_period : (policy : Option Retention) → ForSome policy (λ p. IsPeriod p.period) → HasPeriod policy
+has_period None h = tt
+has_period (Some policy) h = h policy refl
+
+all_periods : (policy : Option Retention) → HasPeriod policy → ForSome policy (λ p. IsPeriod p.period)
+all_periods None h p is = cc
+all_periods (Some policy) h p is = subst (λ (q : Option Retention). HasPeriod q) is h
+
 -- a bucket is made within the limits
-insert_limited : (alive : Option State) (slot : Slot) (t : ℕ) (name : List ℕ) (settings : Settings) → AreBuilt settings → AreLimited slot.alive → AreLimited (insert_on alive slot t name settings).1.alive
-insert_limited (Some s) slot t name settings built h = h
-insert_limited None slot t name settings built h = record { period = built.limits.period; duration = built.limits.duration }
+in_force_period : (t : ℕ) (settings : Settings) → (policy : Option Retention) → policy ≡ settings.retention → HasPeriod policy → HasPeriod (settings_since t settings).retention
+in_force_period t settings None is h = rw (sym is) h
+in_force_period t settings (Some policy) is h = rw (sym is) h
 
--- a put leaves the settings
-tested_limited : (refusal : Option Reason) (slot : Slot) (t : ℕ) (s : State) (row : Row) → Some s ≡ slot.alive → AreLimited slot.alive → AreLimited (put_tested refusal slot s t row).1.alive
+insert_limits : (t : ℕ) (settings : Settings) → AreInLimits settings → AreInLimits (settings_since t settings)
+insert_limits t settings h = record {
+  period = all_periods _ (in_force_period t settings settings.retention refl (has_period _ h.period));
+  duration = h.duration;
+}
+
+-- a change leaves the settings within the limits
+period_changed : (whole : Bool) (had : Option Retention) (set : Set ℕ) → HasPeriod had → IfSet set IsPeriod → IsPeriodIf (changed_option whole (option_map (λ policy. policy.period) had) set)
+period_changed true had Keep h set = tt
+period_changed false None Keep h set = tt
+period_changed false (Some policy) Keep h set = h
+period_changed whole had Clear h set = tt
+period_changed whole had (To period) h set = set
+
+policy_changed : (t : ℕ) (had : Option Retention) (period : Option ℕ) → IsPeriodIf period → HasPeriod (policy_of t had period)
+policy_changed t had None h = tt
+policy_changed t None (Some period) h = h
+policy_changed t (Some policy) (Some period) h = h
+
+default_duration : IsDuration default_soft_seconds
+default_duration = inr (omega arith, omega arith)
+
+duration_changed : (whole : Bool) (had : ℕ) (set : Set ℕ) → IsDuration had → IfSet set IsDuration → IsDuration (changed whole default_soft_seconds had set)
+duration_changed true had Keep h set = default_duration
+duration_changed false had Keep h set = h
+duration_changed whole had Clear h set = default_duration
+duration_changed whole had (To seconds) h set = set
+
+change_limits : (t : ℕ) (whole : Bool) (change : SettingsChange) (settings : Settings) → AreSetInLimits change → AreInLimits settings → AreInLimits (changed_settings t whole change settings)
+unfolding changed_settings
+change_limits t whole change settings set h = record {
+  period = all_periods _ (policy_changed t settings.retention (changed_period whole change settings)
+      (period_changed whole settings.retention change.retention_period (has_period _ h.period) set.period));
+  duration = duration_changed whole settings.soft_seconds change.soft_seconds h.duration set.duration;
+}
+
+-- the limits of a bucket that a slot has
+limits_of : (slot : Slot) (s : State) → slot.alive ≡ Some s → AreLimited slot.alive → AreInLimits s.settings
+limits_of slot s is h = subst AreLimited is h
+
+-- what a command leaves has settings in the limits
+abbrev Limited : Answer × Slot → Type 0
+Limited done = AreLimited done.1.alive
+
+change_limited : (s : State) (name : List ℕ) (generation : Option ℕ) (row : Row) → AreInLimits s.settings → AreLimited (Some (change_state s name generation row))
+unfolding change_state
+change_limited s name generation row h = h
+
+delete_limited : (s : State) (t : ℕ) (name : List ℕ) (generation : Option ℕ) → AreInLimits s.settings → AreLimited (Some (delete_state s t name generation))
+unfolding delete_state
+delete_limited s t name generation h = h
+
+put_limited : (s : State) (t : ℕ) (row : Row) → AreInLimits s.settings → AreLimited (Some (put_state s t row))
 unfolding put_state
-tested_limited (Some reason) slot t s row is h = h
-tested_limited None slot t s row is h = subst AreLimited (sym is) h
+put_limited s t row h = h
 
-put_limited : (alive : Option State) (slot : Slot) (t : ℕ) (name : List ℕ) (pre : Pre) (meta : Meta) (hashed : Digested) (components : Option ℕ) (expect : Expect) → alive ≡ slot.alive → AreLimited slot.alive → AreLimited (put_on alive slot t name pre meta hashed components expect).1.alive
-put_limited None slot t name pre meta hashed components expect is h = h
-put_limited (Some s) slot t name pre meta hashed components expect is h =
-    tested_limited (put_refusal pre expect hashed (live_row name s.rows)) slot t s
-    (new_row s.settings t (next_generation t slot.last_object) name meta hashed components) is h
-
--- one command, on a slot that is aged
-command_limited : (command : Command) (slot : Slot) (t : ℕ) → IsBuilt command → AreLimited slot.alive → AreLimited (command_step slot t command).1.alive
-unfolding insert_step put_step
-command_limited (BucketInsert bucket settings) slot t built h = insert_limited slot.alive slot t bucket settings built h
-command_limited (Put bucket name pre meta hashed components expect) slot t built h = put_limited slot.alive slot t name pre meta hashed components expect refl h
-command_limited (Get bucket name generation soft pre) slot t built h =
-    subst (λ (after : Slot). AreLimited after.alive) (sym (get_same slot name generation pre)) h
+command_limited : (command : Command) (slot : Slot) (t : ℕ) → IsBuilt command → AreLimited slot.alive → Limited (command_step slot t command)
+command_limited (BucketInsert bucket settings) slot t built h = insert_cases Limited slot t bucket settings (λ reason. h) (λ free. insert_limits t settings built)
+command_limited (BucketGet bucket pre) slot t built h = bucket_get_cases Limited slot bucket pre (λ reason. h) (λ s. h)
+command_limited (BucketChange bucket pre change whole) slot t built h =
+    bucket_change_cases Limited slot t bucket pre change whole (λ reason. h)
+    (λ s is passed. change_limits t whole change s.settings built (limits_of slot s is h))
+command_limited (BucketDelete bucket pre) slot t built h = bucket_delete_cases Limited slot t pre (λ reason. h) (λ s is passed. tt)
+command_limited (Get bucket name generation soft pre) slot t built h = get_cases Limited slot name generation soft pre (λ reason. h) (λ row settings. h)
+command_limited (Change bucket name generation pre change whole) slot t built h =
+    change_cases Limited slot t name generation pre change whole (λ reason. h)
+    (λ s row is found. change_limited s name generation _ (limits_of slot s is h))
+command_limited (Delete bucket name generation pre) slot t built h =
+    delete_cases Limited slot t name generation pre (λ reason. h)
+    (λ s row is found passed. delete_limited s t name generation (limits_of slot s is h))
+command_limited (Put bucket name pre meta hashed components expect) slot t built h =
+    put_cases Limited slot t name pre meta hashed components expect (λ reason. h)
+    (λ s is passed. put_limited s t _ (limits_of slot s is h))
 command_limited _ slot t built h = h
 
 -- one step
@@ -71,3 +155,44 @@ pub sound_after : {E : Type 0} (result : Result Answer E) (old new : Slot) (mome
 sound_after (Ok answer) old new moment command built h done err =
     subst IsSound (ap (λ (p : Answer × Slot). p.1) done) (step_sound old moment command built h)
 sound_after (Err e) old new moment command built h done err = subst IsSound (sym err) h
+
+aged_alive_early : (t : ℕ) (alive : Option State) → IfThere alive (λ s. AreEarly s.rows) → IfThere (aged_alive t alive) (λ s. AreEarly s.rows)
+unfolding aged_state
+aged_alive_early t None h = h
+aged_alive_early t (Some s) h = all-filter IsEarly (λ row. kind_stays t row.kind) s.rows h
+
+-- the bucket that is alive once the slot is aged
+pub aged_early : (t : ℕ) (alive : Option State) (before state : State) → alive ≡ Some before → state ≡ aged_state t before → IfThere alive (λ s. AreEarly s.rows) → AreEarly state.rows
+aged_early t alive before state lives is h =
+    let aged_h : IfThere (aged_alive t (Some before)) (λ s. AreEarly s.rows) = aged_alive_early t (Some before) (subst (λ a. IfThere a (λ s. AreEarly s.rows)) lives h) in
+    subst (λ (s : State). AreEarly s.rows) (sym is) aged_h
+
+there_when : (P : Row → Type 0) (found : Option Row) → ((row : Row) → found ≡ Some row → P row) → IfThere found P
+there_when P None h = tt
+there_when P (Some row) h = h row refl
+
+pub live_early : (name : List ℕ) (rows : List Row) → AreEarly rows → IfThere (live_row name rows) IsEarly
+live_early name rows h = there_when IsEarly (live_row name rows) (λ row is. all-find IsEarly (is_live_of name) row rows is h)
+
+pub limited_after : (slot : Slot) (t : ℕ) (after : Slot) (s : State) → after ≡ aged slot t → after.alive ≡ Some s → IsReady slot → AreInLimits s.settings
+limited_after slot t after s is lives h =
+    subst AreLimited lives (subst (λ (q : Slot). AreLimited q.alive) (sym is) (aged_limited t slot.alive h.limits))
+
+pub early_after : (slot : Slot) (t : ℕ) (after : Slot) (s : State) → after ≡ aged slot t → after.alive ≡ Some s → IsReady slot → AreEarly s.rows
+early_after slot t after s is lives h =
+    subst (λ a. IfThere a (λ s. AreEarly s.rows)) lives (subst (λ (q : Slot). IfThere q.alive (λ s. AreEarly s.rows)) (sym is) (aged_alive_early t slot.alive h.early))
+
+-- a step can be made where the numbers leave room
+row_early : (o m : ℕ) (row : Row) → m < 2 ^ 62 → IsFitRow o m row → IsEarly row
+row_early o m row small h = omega (arith, h.start)
+
+alive_early : (o m u : ℕ) (alive : Option State) → m < 2 ^ 62 → IfThere alive (IsFitState o m u) → IfThere alive (λ s. AreEarly s.rows)
+alive_early o m u None small h = tt
+alive_early o m u (Some s) small h = all-weaker (IsFitRow o m) IsEarly (λ row fit. row_early o m row small fit) s.rows h.rows
+
+pub ready_when : (slot : Slot) → IsSound slot → IsSmall slot → IsReady slot
+ready_when slot h small = record {
+  small = small;
+  limits = h.limits;
+  early = alive_early slot.last_object slot.last_moment slot.next_upload slot.alive small.moment h.fit.alive;
+}

@@ -4,7 +4,8 @@ use Rattle.gcs_meaning.specs.declared.command.Answer.{Answer}
 use Rattle.gcs_meaning.specs.declared.command.Command.{Command}
 use Rattle.gcs_meaning.specs.declared.command.Entry.{Entry}
 use Rattle.gcs_meaning.specs.Slot.{Slot}
-use Rattle.gcs_meaning.specs.Step.{IsSmall, step}
+use Rattle.gcs_meaning.specs.Bounds.{IsSmall}
+use Rattle.gcs_meaning.specs.Step.{step}
 use Rattle.gcs_meaning.specs.History.{Slots, slot_of, with_slot, replay}
 use Rattle.gcs_bucket.specs.Rows.{map_at}
 

@@ -2,12 +2,11 @@
 ghost use Rattle.std.specs.Prelude.{◌≡◌, IfOk, OnErr};
 ghost use Rattle.gcs_meaning.specs.Fit.{IsFit};
 ghost use Rattle.gcs_meaning.specs.Slot.{fresh_slot};
-ghost use Rattle.gcs_meaning.specs.Step.{step, IsBuilt, IsSmall};
+ghost use Rattle.gcs_meaning.specs.Bounds.{IsSmall};
+ghost use Rattle.gcs_meaning.specs.Step.{step, IsBuilt};
 
 use crate::slot::Slot;
 use gcs_chunks::Chunks;
-#[cfg(test)]
-use gcs_meaning::Row;
 use gcs_meaning::{Answer, Command};
 use std::alloc::{AllocError, Global};
 use std::marker::Model;
@@ -25,7 +24,7 @@ pub struct Bucket {
 
 impl Model for Bucket {
     ghost use Rattle.gcs_meaning.specs.Slot.{Slot};
-    ghost use Rattle.gcs_bucket.specs.Living.{IsSound, value_of};
+    ghost use Rattle.gcs_bucket.specs.Slot.{IsSound, value_of};
 
     ghost Value = { Slot };
 
@@ -62,16 +61,5 @@ impl Bucket {
         ensures fit { IsFit self.new }
     {
         self.slot.apply(moment, command)
-    }
-}
-
-#[cfg(test)]
-impl Bucket {
-    // The versions, none where the bucket isn't alive.
-    pub fn rows(&self) -> &[Row] {
-        match &self.slot.living {
-            Some(living) => &living.rows,
-            None => &[],
-        }
     }
 }

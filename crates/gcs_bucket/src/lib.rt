@@ -2,16 +2,28 @@
 //! history that they come from, and the desk of a program that shares its store with nobody.
 #![tactic(auto)]
 
+#[cfg(test)]
+mod asks;
 mod bucket;
+mod bucket_commands;
+#[cfg(test)]
+mod calls;
+mod choosing;
 mod desk;
+mod graves;
 mod living;
+mod puts;
+mod reads;
 mod refusals;
 mod rows;
+mod settings;
 mod shard;
 mod slot;
 mod slots;
 #[cfg(test)]
 mod tests;
+mod version_commands;
+mod versions;
 
 pub use bucket::Bucket;
 pub use desk::PlainDesk;

@@ -1,11 +1,12 @@
 //! The versions of a bucket: rows in a plain vector, rising by name and generation.
-ghost use Rattle.std.specs.Prelude.{◌≡◌, ◌≤◌, ◌<◌, ◌+◌, ◌^◌, IfOk, IfSome, length, position, insert, vec_len, vec_capacity, remove};
-ghost use Rattle.std.specs.Option.{option_copied};
-ghost use Rattle.gcs_meaning.specs.Aging.{kind_stays, aged_rows};
-ghost use Rattle.gcs_meaning.specs.Put.{is_live, is_live_of, is_before, with_row, retired_rows, live_row};
-ghost use Rattle.gcs_meaning.specs.Step.{is_chosen, chosen_row};
+ghost use Rattle.std.specs.Prelude.{◌≡◌, ◌≤◌, ◌<◌, [], ◌∷◌, length, insert, vec_len, vec_capacity, remove};
+ghost use Rattle.gcs_meaning.specs.Aging.{aged_rows};
+ghost use Rattle.gcs_meaning.specs.Choosing.{is_chosen};
+ghost use Rattle.gcs_meaning.specs.Put.{is_before, with_row};
+ghost use Rattle.gcs_meaning.specs.Retiring.{change_first, retired_rows};
 ghost use Rattle.gcs_bucket.specs.Rows.{map_at, with_kind};
 
+use crate::choosing::{chosen_place, stays};
 use gcs_meaning::{Kind, Name, Retired, Row};
 use std::cmp::Ordering;
 
@@ -18,56 +19,19 @@ pub fn age_rows(rows: &mut Vec<Row>, moment: u64)
     rows.retain(|row| stays(row.kind, moment));
 }
 
-fn stays(kind: Kind, moment: u64) -> bool
-    ensures { result ≡ kind_stays moment kind }
-{
-    match kind {
-        Kind::Live | Kind::Noncurrent { .. } => true,
-        Kind::Soft { hard, .. } => moment < hard,
-    }
-}
-
-/// The live version of the name.
-pub fn find_live<'a>(rows: &'a [Row], name: &Name) -> Option<&'a Row>
-    ensures { option_copied result ≡ live_row name.now rows.now }
-{
-    rows.iter().find(|row| is_live_row(row, name))
-}
-
-fn is_live_row(row: &Row, name: &Name) -> bool
-    ensures { result ≡ is_live_of name.now row.now }
-{
-    matches!(row.kind, Kind::Live) && name.as_bytes() == row.name.as_bytes()
-}
-
-/// The version that a request names: that of the generation unless it is soft-deleted, or without
-/// a generation the live one.
-pub fn find_chosen<'a>(rows: &'a [Row], name: &Name, generation: Option<u64>) -> Option<&'a Row>
-    ensures { option_copied result ≡ chosen_row name.now generation rows.now }
-{
-    rows.iter().find(|row| is_chosen_row(row, name, generation))
-}
-
-fn is_chosen_row(row: &Row, name: &Name, generation: Option<u64>) -> bool
-    ensures { result ≡ is_chosen name.now generation row.now }
-{
-    match generation {
-        None => is_live_row(row, name),
-        Some(generation) => {
-            !matches!(row.kind, Kind::Soft { .. })
-                && row.generation == generation
-                && name.as_bytes() == row.name.as_bytes()
-        }
-    }
-}
-
-/// Retires the live version of the name at `moment`, where there is one.
-pub fn retire_row(rows: &mut Vec<Row>, to: Retired, moment: u64, name: &Name)
-    ensures items { rows.new.items ≡ retired_rows to moment name.now rows.old.items }
+/// Retires the version that a request names at `moment`, where there is one.
+pub fn retire_row(
+    rows: &mut Vec<Row>,
+    to: Retired,
+    moment: u64,
+    name: &Name,
+    generation: Option<u64>,
+)
+    ensures items { rows.new.items ≡ retired_rows to moment name.now generation rows.old.items }
     ensures fewer { vec_len rows.new ≤ vec_len rows.old }
     ensures capacity { vec_capacity rows.new ≡ vec_capacity rows.old }
 {
-    let Some(place) = live_place(rows, name) else {
+    let Some(place) = chosen_place(rows, name, generation) else {
         return;
     };
     match to {
@@ -77,10 +41,20 @@ pub fn retire_row(rows: &mut Vec<Row>, to: Retired, moment: u64, name: &Name)
     }
 }
 
-fn live_place(rows: &[Row], name: &Name) -> Option<usize>
-    ensures { result ≡ position (is_live_of name.now) rows.now }
+/// Puts a row in the place of the version that a request names, where there is one.
+pub fn replace_row(rows: &mut Vec<Row>, name: &Name, generation: Option<u64>, row: Row)
+    ensures { rows.new.items ≡ change_first (is_chosen name.now generation) (λ had. row ∷ []) rows.old.items }
 {
-    rows.iter().position(|row| is_live_row(row, name))
+    if let Some(place) = chosen_place(rows, name, generation) {
+        set_row(rows, place, row);
+    }
+}
+
+fn set_row(rows: &mut Vec<Row>, place: usize, row: Row)
+    requires { place < length rows.old.items }
+    ensures { rows.new.items ≡ map_at place (λ had. row) rows.old.items }
+{
+    rows[place] = row;
 }
 
 fn set_kind(rows: &mut Vec<Row>, place: usize, kind: Kind)

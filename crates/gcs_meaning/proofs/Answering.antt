@@ -2,56 +2,36 @@
 use Rattle.std.proofs.Common.{◌≡◌, ℕ, Bool, true, false, List, [], ◌∷◌, ◌++◌, Option, Some, None, refl, ap, sym, subst, ◌∙◌, eq-eqb, arith}
 use Rattle.std.specs.Prelude.{◌==◌, ◌&&◌, if◌then◌else◌}
 use Rattle.std.specs.List.{AllByRecursion}
-use Rattle.gcs_meaning.specs.declared.settings.Settings.{Settings}
-use Rattle.gcs_meaning.specs.declared.settings.Pre.{Pre}
-use Rattle.gcs_meaning.specs.declared.settings.Meta.{Meta}
-use Rattle.gcs_meaning.specs.declared.version.Row.{Row}
-use Rattle.gcs_meaning.specs.declared.version.Expect.{Expect}
-use Rattle.gcs_meaning.specs.declared.reason.Reason.{Reason}
+use Rattle.gcs_meaning.specs.declared.command.Answer.{Answer}
 use Rattle.gcs_meaning.specs.declared.command.Command.{Command}
-use Rattle.gcs_meaning.specs.declared.command.Command.TheVariants.{BucketInsert, Get, Put}
+use Rattle.gcs_meaning.specs.declared.command.Command.TheVariants.{BucketInsert, BucketGet, BucketChange, BucketDelete, Get, Change, Delete, Put}
 use Rattle.gcs_meaning.specs.declared.command.Entry.{Entry}
-use Rattle.gcs_meaning.specs.Content.{Digested}
 use Rattle.gcs_meaning.specs.Moment.{effective_moment}
-use Rattle.gcs_meaning.specs.Policy.{pre_refusal}
-use Rattle.gcs_meaning.specs.Slot.{State, Slot, fresh_slot}
+use Rattle.gcs_meaning.specs.Slot.{Slot, fresh_slot}
 use Rattle.gcs_meaning.specs.Aging.{aged}
-use Rattle.gcs_meaning.specs.Put.{live_row, put_refusal}
-use Rattle.gcs_meaning.specs.Step.{IsBuilt, step, command_step, insert_on, insert_step, put_on, put_tested, put_step, chosen_row, read_tested, read_found, get_on, get_step}
+use Rattle.gcs_meaning.specs.Step.{IsBuilt, step, command_step}
 use Rattle.gcs_meaning.specs.History.{Slots, first_step, slot_step, slot_of, shard_step, replay_from, replay, is_entry, answer_from, answer_at, AreDistinct}
 use Rattle.gcs_meaning.specs.Laws.{is_answer_to, AnswersFit}
+use Rattle.gcs_meaning.proofs.Cases.{insert_cases, bucket_get_cases, bucket_change_cases, bucket_delete_cases, get_cases, change_cases, delete_cases, put_cases}
 
-insert_kind : (alive : Option State) (slot : Slot) (t : ℕ) (bucket : List ℕ) (settings : Settings) → is_answer_to (BucketInsert bucket settings) (insert_on alive slot t bucket settings).0 ≡ true
-insert_kind (Some s) slot t bucket settings = refl
-insert_kind None slot t bucket settings = refl
-
-tested_kind : (refusal : Option Reason) (slot : Slot) (s : State) (t : ℕ) (row : Row) (bucket name : List ℕ) (pre : Pre) (meta : Meta) (hashed : Digested) (components : Option ℕ) (expect : Expect) → is_answer_to (Put bucket name pre meta hashed components expect) (put_tested refusal slot s t row).0 ≡ true
-tested_kind (Some reason) slot s t row bucket name pre meta hashed components expect = refl
-tested_kind None slot s t row bucket name pre meta hashed components expect = refl
-
-put_kind : (alive : Option State) (slot : Slot) (t : ℕ) (bucket name : List ℕ) (pre : Pre) (meta : Meta) (hashed : Digested) (components : Option ℕ) (expect : Expect) → is_answer_to (Put bucket name pre meta hashed components expect) (put_on alive slot t name pre meta hashed components expect).0 ≡ true
-put_kind None slot t bucket name pre meta hashed components expect = refl
-put_kind (Some s) slot t bucket name pre meta hashed components expect =
-    tested_kind (put_refusal pre expect hashed (live_row name s.rows)) slot s t _ bucket name pre meta hashed components expect
-
-read_kind : (refusal : Option Reason) (slot : Slot) (settings : Settings) (row : Row) (bucket name : List ℕ) (generation : Option ℕ) (soft : Bool) (pre : Pre) → is_answer_to (Get bucket name generation soft pre) (read_tested refusal slot settings row).0 ≡ true
-read_kind (Some reason) slot settings row bucket name generation soft pre = refl
-read_kind None slot settings row bucket name generation soft pre = refl
-
-found_kind : (found : Option Row) (slot : Slot) (settings : Settings) (bucket name : List ℕ) (generation : Option ℕ) (soft : Bool) (pre : Pre) → is_answer_to (Get bucket name generation soft pre) (read_found found slot settings pre).0 ≡ true
-found_kind None slot settings bucket name generation soft pre = refl
-found_kind (Some row) slot settings bucket name generation soft pre =
-    read_kind (pre_refusal pre row.generation row.metageneration) slot settings row bucket name generation soft pre
-
-get_kind : (alive : Option State) (slot : Slot) (bucket name : List ℕ) (generation : Option ℕ) (soft : Bool) (pre : Pre) → is_answer_to (Get bucket name generation soft pre) (get_on alive slot name generation pre).0 ≡ true
-get_kind None slot bucket name generation soft pre = refl
-get_kind (Some s) slot bucket name generation soft pre = found_kind (chosen_row name generation s.rows) slot s.settings bucket name generation soft pre
+-- what a command answers is of its kind
+abbrev IsKind : Command → Answer × Slot → Type 0
+IsKind command done = is_answer_to command done.0 ≡ true
 
 command_kind : (command : Command) (slot : Slot) (t : ℕ) → IsBuilt command → is_answer_to command (command_step slot t command).0 ≡ true
-unfolding insert_step put_step get_step
-command_kind (BucketInsert bucket settings) slot t built = insert_kind slot.alive slot t bucket settings
-command_kind (Put bucket name pre meta hashed components expect) slot t built = put_kind slot.alive slot t bucket name pre meta hashed components expect
-command_kind (Get bucket name generation soft pre) slot t built = get_kind slot.alive slot bucket name generation soft pre
+command_kind (BucketInsert bucket settings) slot t built = insert_cases (IsKind (BucketInsert bucket settings)) slot t bucket settings (λ reason. refl) (λ free. refl)
+command_kind (BucketGet bucket pre) slot t built = bucket_get_cases (IsKind (BucketGet bucket pre)) slot bucket pre (λ reason. refl) (λ s. refl)
+command_kind (BucketChange bucket pre change whole) slot t built =
+    bucket_change_cases (IsKind (BucketChange bucket pre change whole)) slot t bucket pre change whole (λ reason. refl) (λ s is passed. refl)
+command_kind (BucketDelete bucket pre) slot t built = bucket_delete_cases (IsKind (BucketDelete bucket pre)) slot t pre (λ reason. refl) (λ s is passed. refl)
+command_kind (Get bucket name generation soft pre) slot t built =
+    get_cases (IsKind (Get bucket name generation soft pre)) slot name generation soft pre (λ reason. refl) (λ row settings. refl)
+command_kind (Change bucket name generation pre change whole) slot t built =
+    change_cases (IsKind (Change bucket name generation pre change whole)) slot t name generation pre change whole (λ reason. refl) (λ s row is found. refl)
+command_kind (Delete bucket name generation pre) slot t built =
+    delete_cases (IsKind (Delete bucket name generation pre)) slot t name generation pre (λ reason. refl) (λ s row is found passed. refl)
+command_kind (Put bucket name pre meta hashed components expect) slot t built =
+    put_cases (IsKind (Put bucket name pre meta hashed components expect)) slot t name pre meta hashed components expect (λ reason. refl) (λ s is passed. refl)
 command_kind _ slot t built = absurd built
 
 step_kind : (slot : Slot) (moment : ℕ) (command : Command) → IsBuilt command → is_answer_to command (step slot moment command).0 ≡ true
@@ -61,8 +41,13 @@ step_kind slot moment command built =
 
 first_kind : (command : Command) (name : List ℕ) (slots : Slots) (moment : ℕ) → IsBuilt command → is_answer_to command (first_step name slots moment command).0 ≡ true
 first_kind (BucketInsert bucket settings) name slots moment built = step_kind fresh_slot moment (BucketInsert bucket settings) built
-first_kind (Put bucket object pre meta hashed components expect) name slots moment built = refl
+first_kind (BucketGet bucket pre) name slots moment built = refl
+first_kind (BucketChange bucket pre change whole) name slots moment built = refl
+first_kind (BucketDelete bucket pre) name slots moment built = refl
 first_kind (Get bucket object generation soft pre) name slots moment built = refl
+first_kind (Change bucket object generation pre change whole) name slots moment built = refl
+first_kind (Delete bucket object generation pre) name slots moment built = refl
+first_kind (Put bucket object pre meta hashed components expect) name slots moment built = refl
 first_kind _ name slots moment built = absurd built
 
 slot_kind : (found : Option Slot) (name : List ℕ) (slots : Slots) (moment : ℕ) (command : Command) → IsBuilt command → is_answer_to command (slot_step found name slots moment command).0 ≡ true
@@ -72,8 +57,13 @@ slot_kind None name slots moment command built = first_kind command name slots m
 shard_kind : (command : Command) (slots : Slots) (moment : ℕ) → IsBuilt command → is_answer_to command (shard_step slots moment command).0 ≡ true
 unfolding shard_step
 shard_kind (BucketInsert bucket settings) slots moment built = slot_kind (slot_of bucket slots) bucket slots moment (BucketInsert bucket settings) built
-shard_kind (Put bucket name pre meta hashed components expect) slots moment built = slot_kind (slot_of bucket slots) bucket slots moment (Put bucket name pre meta hashed components expect) built
+shard_kind (BucketGet bucket pre) slots moment built = slot_kind (slot_of bucket slots) bucket slots moment (BucketGet bucket pre) built
+shard_kind (BucketChange bucket pre change whole) slots moment built = slot_kind (slot_of bucket slots) bucket slots moment (BucketChange bucket pre change whole) built
+shard_kind (BucketDelete bucket pre) slots moment built = slot_kind (slot_of bucket slots) bucket slots moment (BucketDelete bucket pre) built
 shard_kind (Get bucket name generation soft pre) slots moment built = slot_kind (slot_of bucket slots) bucket slots moment (Get bucket name generation soft pre) built
+shard_kind (Change bucket name generation pre change whole) slots moment built = slot_kind (slot_of bucket slots) bucket slots moment (Change bucket name generation pre change whole) built
+shard_kind (Delete bucket name generation pre) slots moment built = slot_kind (slot_of bucket slots) bucket slots moment (Delete bucket name generation pre) built
+shard_kind (Put bucket name pre meta hashed components expect) slots moment built = slot_kind (slot_of bucket slots) bucket slots moment (Put bucket name pre meta hashed components expect) built
 shard_kind _ slots moment built = absurd built
 
 -- an entry before this one has other numbers, so that the search goes on

@@ -1,52 +1,163 @@
 -- The numbers of a slot rise by at most one with each step.
-use Rattle.std.proofs.Common.{◌≡◌, ◌≤◌, ◌+◌, ℕ, suc, List, [], ◌∷◌, length, Option, Some, None, sym, subst, zero-add, add-zero, arith}
+use Rattle.std.proofs.Common.{◌≡◌, ◌≤◌, ◌+◌, ℕ, suc, Bool, true, false, List, [], ◌∷◌, length, Option, Some, None, sym, subst, zero-add, add-zero, arith}
+use Rattle.std.specs.Prelude.{filter, is_some, nat_lt, if◌then◌else◌}
+use Rattle.std.specs.List.{AllByRecursion}
 use Rattle.std.specs.declared.cmp.Ordering.{Ordering}
 use Rattle.std.specs.declared.cmp.Ordering.TheVariants.{Less, Equal, Greater}
 use Rattle.std.specs.Ordering.{nat_cmp}
 use Rattle.std.specs.Cmp.Lexicographic.{slice_cmp}
-use Rattle.gcs_meaning.specs.declared.settings.Settings.{Settings}
-use Rattle.gcs_meaning.specs.declared.settings.Pre.{Pre}
-use Rattle.gcs_meaning.specs.declared.settings.Meta.{Meta}
 use Rattle.gcs_meaning.specs.declared.version.Row.{Row}
-use Rattle.gcs_meaning.specs.declared.version.Expect.{Expect}
-use Rattle.gcs_meaning.specs.declared.reason.Reason.{Reason}
+use Rattle.gcs_meaning.specs.declared.policy.Retired.{Retired}
+use Rattle.gcs_meaning.specs.declared.policy.Retired.TheVariants.{Noncurrent as ToNoncurrent, Soft as ToSoft, Out}
+use Rattle.gcs_meaning.specs.declared.command.Answer.{Answer}
 use Rattle.gcs_meaning.specs.declared.command.Command.{Command}
-use Rattle.gcs_meaning.specs.declared.command.Command.TheVariants.{BucketInsert, BucketRestore, Get, Put}
+use Rattle.gcs_meaning.specs.declared.command.Command.TheVariants.{BucketInsert, BucketGet, BucketChange, BucketDelete, BucketRestore, Get, Change, Delete, Put}
 use Rattle.gcs_meaning.specs.declared.command.Entry.{Entry}
-use Rattle.gcs_meaning.specs.Content.{Digested}
 use Rattle.gcs_meaning.specs.Moment.{effective_moment, last_reading}
-use Rattle.gcs_meaning.specs.Slot.{State, Slot, fresh_slot}
-use Rattle.gcs_meaning.specs.Aging.{aged}
-use Rattle.gcs_meaning.specs.Put.{live_row, put_refusal}
-use Rattle.gcs_meaning.specs.Step.{step, command_step, insert_on, insert_step, put_on, put_tested, put_step}
+use Rattle.gcs_meaning.specs.Slot.{State, Grave, Slot, fresh_slot}
+use Rattle.gcs_meaning.specs.Aging.{kind_stays, aged_state, aged_alive, aged_grave, aged_graves, aged}
+use Rattle.gcs_meaning.specs.Policy.{retired_to}
+use Rattle.gcs_meaning.specs.Choosing.{is_chosen}
+use Rattle.gcs_meaning.specs.Retiring.{retired_row}
+use Rattle.gcs_meaning.specs.Buckets.{grave_of, with_grave}
+use Rattle.gcs_meaning.specs.ObjectChanges.{change_state}
+use Rattle.gcs_meaning.specs.Deletes.{delete_state}
+use Rattle.gcs_meaning.specs.Put.{put_state}
+use Rattle.gcs_meaning.specs.Step.{step, command_step}
+use Rattle.gcs_meaning.specs.Fit.{IfThere}
 use Rattle.gcs_meaning.specs.History.{Slots, slot_of, with_slot, set_by, found_by, bucket_of, first_step, slot_step, named_step, shard_step, replay_from, replay}
-use Rattle.gcs_meaning.proofs.Reading.{get_same}
-use Rattle.gcs_meaning.specs.Bounds.{IsWithin, AreWithin}
+use Rattle.gcs_meaning.specs.Bounds.{IsChangedAtMost, IsWithin, AreWithin}
+use Rattle.gcs_meaning.proofs.Listed.{all-filter, all-map, all-weaker, all-change_first, all-with_row, some-weaker}
+use Rattle.gcs_meaning.proofs.Chosen.{all-chosen}
+use Rattle.gcs_meaning.proofs.Cases.{insert_cases, bucket_get_cases, bucket_change_cases, bucket_delete_cases, get_cases, change_cases, delete_cases, put_cases}
+
+-- a version was changed at most n times
+abbrev IsRowWithin : ℕ → Row → Type 0
+IsRowWithin n row = row.metageneration ≤ n
+
+changes_more : (n : ℕ) (s : State) → IsChangedAtMost n s → IsChangedAtMost (suc n) s
+changes_more n s h = record { bucket = omega (arith, h.bucket); rows = all-weaker (IsRowWithin n) (IsRowWithin (suc n)) (λ row within. omega (arith, within)) s.rows h.rows }
+
+graves_more : (n : ℕ) (graves : List Grave) → AllByRecursion (λ g. IsChangedAtMost n g.state) graves → AllByRecursion (λ g. IsChangedAtMost (suc n) g.state) graves
+graves_more n graves h = all-weaker (λ g. IsChangedAtMost n g.state) (λ g. IsChangedAtMost (suc n) g.state) (λ g. changes_more n g.state) graves h
 
 within_more : (n : ℕ) (slot : Slot) → IsWithin n slot → IsWithin (suc n) slot
-within_more n slot h = record { moment = h.moment; object = omega arith; bucket = omega arith }
+within_more n slot h = record {
+  moment = h.moment;
+  object = omega (arith, h.object);
+  bucket = omega (arith, h.bucket);
+  changes = some-weaker (IsChangedAtMost n) (IsChangedAtMost (suc n)) (changes_more n) slot.alive h.changes;
+  graves = graves_more n slot.graves h.graves;
+}
+
+state_aged : (t n : ℕ) (s : State) → IsChangedAtMost n s → IsChangedAtMost n (aged_state t s)
+unfolding aged_state
+state_aged t n s h = record { bucket = h.bucket; rows = all-filter (IsRowWithin n) (λ row. kind_stays t row.kind) s.rows h.rows }
+
+alive_aged : (t n : ℕ) (alive : Option State) → IfThere alive (IsChangedAtMost n) → IfThere (aged_alive t alive) (IsChangedAtMost n)
+alive_aged t n None h = h
+alive_aged t n (Some s) h = state_aged t n s h
+
+graves_aged : (t n : ℕ) (graves : List Grave) → AllByRecursion (λ g. IsChangedAtMost n g.state) graves → AllByRecursion (λ g. IsChangedAtMost n g.state) (aged_graves t graves)
+unfolding aged_graves
+graves_aged t n graves h =
+    all-map (λ g. IsChangedAtMost n g.state) (λ g. IsChangedAtMost n g.state) (aged_grave t) (λ g. state_aged t n g.state) (filter (λ g. nat_lt t g.hard) graves)
+    (all-filter (λ g. IsChangedAtMost n g.state) (λ g. nat_lt t g.hard) graves h)
 
 aged_within : (n : ℕ) (slot : Slot) (t : ℕ) → t ≤ last_reading → IsWithin n slot → IsWithin n (aged slot t)
-aged_within n slot t fits h = record { moment = fits; object = h.object; bucket = h.bucket }
+aged_within n slot t fits h =
+    record { moment = fits; object = h.object; bucket = h.bucket; changes = alive_aged t n slot.alive h.changes; graves = graves_aged t n slot.graves h.graves }
 
-insert_within : (alive : Option State) (slot : Slot) (n t : ℕ) (name : List ℕ) (settings : Settings) → t ≤ last_reading → IsWithin n slot → IsWithin (suc n) (insert_on alive slot t name settings).1
-insert_within (Some s) slot n t name settings fits h = within_more n slot h
-insert_within None slot n t name settings fits h = record { moment = h.moment; object = omega arith; bucket = omega arith }
+-- the bucket that is alive
+living_within : (n : ℕ) (slot : Slot) (s : State) → slot.alive ≡ Some s → IsWithin n slot → IsChangedAtMost n s
+living_within n slot s is h = subst (λ alive. IfThere alive (IsChangedAtMost n)) is h.changes
 
-tested_within : (refusal : Option Reason) (slot : Slot) (n t : ℕ) (s : State) (row : Row) → row.generation ≤ last_reading + suc n → IsWithin n slot → IsWithin (suc n) (put_tested refusal slot s t row).1
-tested_within (Some reason) slot n t s row fits h = within_more n slot h
-tested_within None slot n t s row fits h = record { moment = h.moment; object = fits; bucket = omega arith }
+-- a slot whose bucket becomes another one
+alive_within : (n : ℕ) (slot : Slot) (s : State) → IsChangedAtMost (suc n) s → IsWithin n slot → IsWithin (suc n) (record slot { alive = Some s })
+alive_within n slot s new h =
+    record { moment = h.moment; object = omega (arith, h.object); bucket = omega (arith, h.bucket); changes = new; graves = graves_more n slot.graves h.graves }
 
-put_within : (alive : Option State) (slot : Slot) (n t : ℕ) (name : List ℕ) (pre : Pre) (meta : Meta) (hashed : Digested) (components : Option ℕ) (expect : Expect) → t ≤ last_reading → IsWithin n slot → IsWithin (suc n) (put_on alive slot t name pre meta hashed components expect).1
-put_within None slot n t name pre meta hashed components expect fits h = within_more n slot h
-put_within (Some s) slot n t name pre meta hashed components expect fits h =
-    tested_within (put_refusal pre expect hashed (live_row name s.rows)) slot n t s _ (omega arith) h
+grave_within : (b : Bool) (n : ℕ) (g : Grave) (graves : List Grave) → IsChangedAtMost n g.state → AllByRecursion (λ x. IsChangedAtMost n x.state) graves
+    → AllByRecursion (λ x. IsChangedAtMost n x.state) (if b then g ∷ graves else graves)
+grave_within true n g graves new h = (new, h)
+grave_within false n g graves new h = h
+
+deleted_within : (n t : ℕ) (slot : Slot) (s : State) → slot.alive ≡ Some s → IsWithin n slot → IsWithin (suc n) (record slot { alive = None; graves = with_grave t (grave_of t s) slot.graves })
+unfolding grave_of
+deleted_within n t slot s is h =
+    let new : IsChangedAtMost (suc n) s = changes_more n s (living_within n slot s is h) in
+    record {
+      moment = h.moment;
+      object = omega (arith, h.object);
+      bucket = omega (arith, h.bucket);
+      changes = tt;
+      graves = grave_within (nat_lt t (grave_of t s).hard) (suc n) (grave_of t s) slot.graves (record { bucket = new.bucket; rows = new.rows }) (graves_more n slot.graves h.graves);
+    }
+
+retired_within : (to : Retired) (n t : ℕ) (row : Row) → IsRowWithin n row → AllByRecursion (IsRowWithin n) (retired_row to t row)
+retired_within ToNoncurrent n t row h = (h, tt)
+retired_within (ToSoft hard) n t row h = (h, tt)
+retired_within Out n t row h = tt
+
+put_state_within : (n t : ℕ) (s : State) (row : Row) → row.metageneration ≤ n → IsChangedAtMost n s → IsChangedAtMost n (put_state s t row)
+unfolding put_state
+put_state_within n t s row new h = record {
+  bucket = h.bucket;
+  rows = all-with_row (IsRowWithin n) row _ new
+      (all-change_first (IsRowWithin n) (is_chosen row.name None) (retired_row (retired_to s.settings t false) t) (retired_within (retired_to s.settings t false) n t) s.rows h.rows);
+}
+
+delete_state_within : (n t : ℕ) (s : State) (name : List ℕ) (generation : Option ℕ) → IsChangedAtMost n s → IsChangedAtMost n (delete_state s t name generation)
+unfolding delete_state
+delete_state_within n t s name generation h = record {
+  bucket = h.bucket;
+  rows = all-change_first (IsRowWithin n) (is_chosen name generation) (retired_row (retired_to s.settings t (is_some generation)) t)
+      (retired_within (retired_to s.settings t (is_some generation)) n t) s.rows h.rows;
+}
+
+change_state_within : (n : ℕ) (s : State) (name : List ℕ) (generation : Option ℕ) (row : Row) → row.metageneration ≤ n → IsChangedAtMost n s → IsChangedAtMost n (change_state s name generation row)
+unfolding change_state
+change_state_within n s name generation row new h = record {
+  bucket = h.bucket;
+  rows = all-change_first (IsRowWithin n) (is_chosen name generation) (λ had. row ∷ []) (λ had within. (new, tt)) s.rows h.rows;
+}
+
+-- what a command leaves has numbers that are at most one greater
+abbrev Within : ℕ → Answer × Slot → Type 0
+Within n done = IsWithin (suc n) done.1
 
 command_within : (command : Command) (slot : Slot) (n t : ℕ) → t ≤ last_reading → IsWithin n slot → IsWithin (suc n) (command_step slot t command).1
-unfolding insert_step put_step
-command_within (BucketInsert bucket settings) slot n t fits h = insert_within slot.alive slot n t bucket settings fits h
-command_within (Put bucket name pre meta hashed components expect) slot n t fits h = put_within slot.alive slot n t name pre meta hashed components expect fits h
-command_within (Get bucket name generation soft pre) slot n t fits h = subst (IsWithin (suc n)) (sym (get_same slot name generation pre)) (within_more n slot h)
+command_within (BucketInsert bucket settings) slot n t fits h =
+    insert_cases (Within n) slot t bucket settings (λ reason. within_more n slot h)
+    (λ free. record { moment = h.moment; object = omega (arith, h.object); bucket = omega (arith, h.bucket, fits); changes = record { bucket = omega arith; rows = tt }; graves = graves_more n slot.graves h.graves })
+command_within (BucketGet bucket pre) slot n t fits h = bucket_get_cases (Within n) slot bucket pre (λ reason. within_more n slot h) (λ s. within_more n slot h)
+command_within (BucketChange bucket pre change whole) slot n t fits h =
+    bucket_change_cases (Within n) slot t bucket pre change whole (λ reason. within_more n slot h)
+    (λ s is passed.
+    let living : IsChangedAtMost n s = living_within n slot s is h in
+    alive_within n slot _ (record { bucket = omega (arith, living.bucket); rows = (changes_more n s living).rows }) h)
+command_within (BucketDelete bucket pre) slot n t fits h =
+    bucket_delete_cases (Within n) slot t pre (λ reason. within_more n slot h) (λ s is passed. deleted_within n t slot s is h)
+command_within (Get bucket name generation soft pre) slot n t fits h =
+    get_cases (Within n) slot name generation soft pre (λ reason. within_more n slot h) (λ row settings. within_more n slot h)
+command_within (Change bucket name generation pre change whole) slot n t fits h =
+    change_cases (Within n) slot t name generation pre change whole (λ reason. within_more n slot h)
+    (λ s row is found.
+    let living : IsChangedAtMost n s = living_within n slot s is h in
+    let had : row.metageneration ≤ n = all-chosen (IsRowWithin n) name generation row s.rows found living.rows in
+    alive_within n slot _ (change_state_within (suc n) s name generation _ (omega (arith, had)) (changes_more n s living)) h)
+command_within (Delete bucket name generation pre) slot n t fits h =
+    delete_cases (Within n) slot t name generation pre (λ reason. within_more n slot h)
+    (λ s row is found passed. alive_within n slot _ (delete_state_within (suc n) t s name generation (changes_more n s (living_within n slot s is h))) h)
+command_within (Put bucket name pre meta hashed components expect) slot n t fits h =
+    put_cases (Within n) slot t name pre meta hashed components expect (λ reason. within_more n slot h)
+    (λ s is passed. record {
+      moment = h.moment;
+      object = omega (arith, h.object, fits);
+      bucket = omega (arith, h.bucket);
+      changes = put_state_within (suc n) t s _ (omega arith) (changes_more n s (living_within n slot s is h));
+      graves = graves_more n slot.graves h.graves;
+    })
 command_within _ slot n t fits h = within_more n slot h
 
 -- one step
@@ -84,7 +195,7 @@ slot_of_within n name [] h = tt
 slot_of_within n name (p ∷ ps) h = found_within (slice_cmp nat_cmp name p.0) n p.1 (slot_of name ps) h.0 (slot_of_within n name ps h.1)
 
 fresh_within : (n : ℕ) → IsWithin n fresh_slot
-fresh_within n = record { moment = omega arith; object = omega arith; bucket = omega arith }
+fresh_within n = record { moment = omega arith; object = omega arith; bucket = omega arith; changes = tt; graves = tt }
 
 first_within : (command : Command) (n : ℕ) (name : List ℕ) (slots : Slots) (reading : ℕ) → AreWithin n slots → AreWithin (suc n) (first_step name slots reading command).1
 first_within (BucketInsert bucket settings) n name slots reading h =

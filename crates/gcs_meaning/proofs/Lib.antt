@@ -1,7 +1,14 @@
 pub mod Answering
 pub mod Bounded
+pub mod Cases
 pub mod Chosen
+pub mod Covering
+pub mod FitAged
 pub mod Fitting
+pub mod Keys
+pub mod Listed
+pub mod Members
+pub mod Passing
 pub mod Reading
 pub mod Replays
 pub mod Rising

@@ -1,12 +1,16 @@
 -- Laws over every slot, history and command.
 use Rattle.std.specs.Prelude.{◌≡◌, ◌<◌, ℕ, Bool, true, false, List, [], ◌∷◌, ◌++◌, Some}
 use Rattle.gcs_meaning.specs.declared.command.Answer.{Answer}
-use Rattle.gcs_meaning.specs.declared.command.Answer.TheVariants.{Bucket, Object, Refused}
+use Rattle.gcs_meaning.specs.declared.command.Answer.TheVariants.{Bucket, Empty, Object, Refused}
 use Rattle.gcs_meaning.specs.declared.command.Command.{Command}
-use Rattle.gcs_meaning.specs.declared.command.Command.TheVariants.{BucketInsert, Get, Put}
+use Rattle.gcs_meaning.specs.declared.command.Command.TheVariants.{BucketInsert, BucketGet, BucketChange, BucketDelete, Get, Change, Delete, Put}
 use Rattle.gcs_meaning.specs.declared.command.Entry.{Entry}
-use Rattle.gcs_meaning.specs.Slot.{Slot, fresh_slot}
+use Rattle.gcs_meaning.specs.declared.version.Row.{Row}
+use Rattle.gcs_meaning.specs.Content.{bytes_in}
+use Rattle.gcs_meaning.specs.Moment.{effective_moment}
+use Rattle.gcs_meaning.specs.Slot.{State, Slot, fresh_slot}
 use Rattle.gcs_meaning.specs.Fit.{IsFit}
+use Rattle.gcs_meaning.specs.Keeping.{IsOneOf, buckets_of, IsCovered, IsKept}
 use Rattle.gcs_meaning.specs.Step.{step, IsBuilt}
 use Rattle.gcs_meaning.specs.History.{AnswersAt, AreDistinct, answer_at, answer_of}
 
@@ -44,12 +48,23 @@ pub record FitIsKept : Type 0 where
   pub fresh : IsFit fresh_slot
   pub kept : (slot : Slot) (moment : ℕ) (command : Command) → IsBuilt command → IsFit slot → IsFit (step slot moment command).1
 
+-- a version of a fit slot that is covered at the moment of a step, by the settings before the step, is kept by the step with its bytes
+abbrev pub CoveredIsKept : Type 0
+CoveredIsKept = (slot : Slot) (moment : ℕ) (command : Command) (s : State) (row : Row) → IsFit slot
+    → IsOneOf (buckets_of slot) s → IsOneOf s.rows row → IsCovered s (effective_moment slot.last_moment moment) row
+    → IsKept (step slot moment command).1 row.name row.generation (bytes_in row.hashed)
+
 -- an answer that a command can give
 abbrev pub is_answer_to : Command → Answer → Bool
 is_answer_to command (Refused reason) = true
 is_answer_to (BucketInsert bucket settings) (Bucket row) = true
-is_answer_to (Put bucket name pre meta hashed components expect) (Object row settings) = true
+is_answer_to (BucketGet bucket pre) (Bucket row) = true
+is_answer_to (BucketChange bucket pre change whole) (Bucket row) = true
+is_answer_to (BucketDelete bucket pre) Empty = true
 is_answer_to (Get bucket name generation soft pre) (Object row settings) = true
+is_answer_to (Change bucket name generation pre change whole) (Object row settings) = true
+is_answer_to (Delete bucket name generation pre) Empty = true
+is_answer_to (Put bucket name pre meta hashed components expect) (Object row settings) = true
 is_answer_to command answer = false
 
 -- each command gets an answer of its kind, after every history; and the answer at an entry is found by the entry's numbers

@@ -1,4 +1,5 @@
 pub mod Pairs
+pub mod Places
 pub mod Content
 pub mod Refusals
 pub mod Tests
@@ -7,9 +8,18 @@ pub mod Policy
 pub mod Uploads
 pub mod Slot
 pub mod Aging
+pub mod Choosing
+pub mod Retiring
+pub mod Changes
+pub mod Buckets
+pub mod BucketChanges
+pub mod Reads
+pub mod ObjectChanges
+pub mod Deletes
 pub mod Put
 pub mod Step
 pub mod Fit
+pub mod Keeping
 pub mod History
 pub mod Bounds
 pub mod Desk

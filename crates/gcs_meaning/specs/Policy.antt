@@ -51,6 +51,16 @@ condition_refusal (Fails which wanted found) = Some (Condition which wanted foun
 abbrev pub pre_refusal : Pre → ℕ → ℕ → Option Reason
 pre_refusal pre generation metageneration = condition_refusal (pre_of pre generation metageneration)
 
+-- the preconditions on a bucket: it has only the two on the metageneration, and the others are passed over
+unfoldable pub bucket_pre_of : Pre → ℕ → PreResult
+bucket_pre_of pre metageneration =
+    and_then (must_be IfMetagenerationMatch pre.metageneration_is metageneration)
+    (must_not_be IfMetagenerationNotMatch pre.metageneration_not metageneration)
+
+-- the first precondition that fails on a bucket, as a refusal
+abbrev pub bucket_pre_refusal : Pre → ℕ → Option Reason
+bucket_pre_refusal pre metageneration = condition_refusal (bucket_pre_of pre metageneration)
+
 -- seconds in microseconds
 abbrev pub micros : ℕ → ℕ
 micros seconds = seconds * 1000000

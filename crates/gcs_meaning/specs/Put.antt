@@ -1,7 +1,6 @@
 -- A new version of a name (Cloud Storage JSON API, "Objects: insert").
-use Rattle.std.specs.Prelude.{ℕ, ◌==◌, nat_lt, length, unwrap_or, Bool, true, false, not, ◌&&◌, ◌||◌, List, [], ◌∷◌, ◌++◌, Option, Some, None, if◌then◌else◌}
+use Rattle.std.specs.Prelude.{ℕ, ◌==◌, nat_lt, length, unwrap_or, Bool, true, false, not, ◌||◌, List, [], ◌∷◌, Option, Some, None, if◌then◌else◌}
 use Rattle.std.specs.Str.{bytes_eq}
-use Rattle.std.specs.List.{find}
 use Rattle.std.specs.Ordering.{nat_cmp}
 use Rattle.std.specs.Cmp.Lexicographic.{slice_cmp}
 use Rattle.std.specs.declared.cmp.Ordering.{Ordering}
@@ -9,34 +8,23 @@ use Rattle.std.specs.declared.cmp.Ordering.TheVariants.{Less, Equal, Greater}
 use Rattle.gcs_meaning.specs.declared.settings.Pre.{Pre}
 use Rattle.gcs_meaning.specs.declared.settings.Meta.{Meta}
 use Rattle.gcs_meaning.specs.declared.settings.Settings.{Settings}
-use Rattle.gcs_meaning.specs.declared.version.Kind.{Kind}
-use Rattle.gcs_meaning.specs.declared.version.Kind.TheVariants.{Live, Noncurrent, Soft}
+use Rattle.gcs_meaning.specs.declared.version.Kind.TheVariants.{Live}
 use Rattle.gcs_meaning.specs.declared.version.Row.{Row}
 use Rattle.gcs_meaning.specs.declared.version.Expect.{Expect}
-use Rattle.gcs_meaning.specs.declared.policy.Retired.{Retired}
-use Rattle.gcs_meaning.specs.declared.policy.Retired.TheVariants.{Noncurrent as ToNoncurrent, Soft as ToSoft, Out}
 use Rattle.gcs_meaning.specs.declared.reason.Digest.TheVariants.{Crc, Md5}
 use Rattle.gcs_meaning.specs.declared.reason.Reason.{Reason}
-use Rattle.gcs_meaning.specs.declared.reason.Reason.TheVariants.{HashDiffers}
+use Rattle.gcs_meaning.specs.declared.reason.Reason.TheVariants.{HashDiffers, NoBucket}
+use Rattle.gcs_meaning.specs.declared.command.Answer.{Answer}
+use Rattle.gcs_meaning.specs.declared.command.Answer.TheVariants.{Refused, Object}
 use Rattle.gcs_crc.specs.Crc.{crc}
 use Rattle.md5.specs.Md5.{md5}
 use Rattle.gcs_meaning.specs.Content.{Digested, bytes_in}
-use Rattle.gcs_meaning.specs.Slot.{State}
+use Rattle.gcs_meaning.specs.Moment.{next_generation}
+use Rattle.gcs_meaning.specs.Slot.{State, Slot}
 use Rattle.gcs_meaning.specs.Tests.{or_else, size_refusal}
 use Rattle.gcs_meaning.specs.Policy.{pre_refusal, retired_to}
-
-abbrev pub is_live : Kind → Bool
-is_live Live = true
-is_live (Noncurrent at) = false
-is_live (Soft at hard) = false
-
--- the row is the live one of the name
-abbrev pub is_live_of : List ℕ → Row → Bool
-is_live_of name row = is_live row.kind && bytes_eq name row.name
-
--- the live version of a name
-abbrev pub live_row : List ℕ → List Row → Option Row
-live_row name rows = find (is_live_of name) rows
+use Rattle.gcs_meaning.specs.Choosing.{live_row}
+use Rattle.gcs_meaning.specs.Retiring.{retired_rows, taken_refusal}
 
 -- the numbers that preconditions are tested on: 0 and 0 where there is no version
 abbrev pub generation_of : Option Row → ℕ
@@ -63,27 +51,18 @@ md5_refusal (Some given) hashed =
 unfoldable pub hash_refusal : Expect → Digested → Option Reason
 hash_refusal expect hashed = or_else (crc_refusal expect.crc (bytes_in hashed)) (md5_refusal expect.md5 hashed)
 
--- the first test of a put that fails, on the live version of the name
-unfoldable pub put_refusal : Pre → Expect → Digested → Option Row → Option Reason
-put_refusal pre expect hashed live =
+-- the live version that a put replaces, where there is one, may be taken away
+abbrev pub replaced_refusal : Settings → ℕ → Option Row → Option Reason
+replaced_refusal settings t None = None
+replaced_refusal settings t (Some row) = taken_refusal settings t false row
+
+-- the first test of a put at t that fails, on the live version of the name
+unfoldable pub put_refusal : Settings → ℕ → Pre → Expect → Digested → Option Row → Option Reason
+put_refusal settings t pre expect hashed live =
     or_else (pre_refusal pre (generation_of live) (metageneration_of live))
+    (or_else (replaced_refusal settings t live)
     (or_else (hash_refusal expect hashed)
-    (size_refusal (length (bytes_in hashed))))
-
--- a row that is retired
-abbrev pub retired_row : Retired → ℕ → Row → List Row
-retired_row ToNoncurrent t row = record row { kind = Noncurrent t } ∷ []
-retired_row (ToSoft hard) t row = record row { kind = Soft t hard } ∷ []
-retired_row Out t row = []
-
--- the list with its first element that passes replaced by what it becomes
-abbrev pub change_first : {X : Type 0} → (X → Bool) → (X → List X) → List X → List X
-change_first p becomes [] = []
-change_first p becomes (x ∷ xs) = if p x then becomes x ++ xs else x ∷ change_first p becomes xs
-
--- the rows once the live one of the name, of which there is at most one, is retired
-abbrev pub retired_rows : Retired → ℕ → List ℕ → List Row → List Row
-retired_rows to t name rows = change_first (is_live_of name) (retired_row to t) rows
+    (size_refusal (length (bytes_in hashed)))))
 
 abbrev pub before_by : Ordering → ℕ → ℕ → Bool
 before_by Less m n = true
@@ -124,4 +103,22 @@ new_row settings t generation name meta hashed components = record {
 -- the bucket once the live version is retired and the new one is there
 unfoldable pub put_state : State → ℕ → Row → State
 put_state state t row =
-    record state { rows = with_row row (retired_rows (retired_to state.settings t false) t row.name state.rows) }
+    record state { rows = with_row row (retired_rows (retired_to state.settings t false) t row.name None state.rows) }
+
+-- a slot that has the version that was made
+abbrev pub with_version : Slot → State → ℕ → Row → Answer × Slot
+with_version slot s t row = (Object row s.settings, record slot { alive = Some (put_state s t row); last_object = row.generation })
+
+abbrev pub put_tested : Option Reason → Slot → State → ℕ → Row → Answer × Slot
+put_tested (Some reason) slot s t row = (Refused reason, slot)
+put_tested None slot s t row = with_version slot s t row
+
+-- the put of a version, on a slot that is aged to t
+abbrev pub put_on : Option State → Slot → ℕ → List ℕ → Pre → Meta → Digested → Option ℕ → Expect → Answer × Slot
+put_on None slot t name pre meta hashed components expect = (Refused NoBucket, slot)
+put_on (Some s) slot t name pre meta hashed components expect =
+    put_tested (put_refusal s.settings t pre expect hashed (live_row name s.rows)) slot s t
+    (new_row s.settings t (next_generation t slot.last_object) name meta hashed components)
+
+unfoldable pub put_step : Slot → ℕ → List ℕ → Pre → Meta → Digested → Option ℕ → Expect → Answer × Slot
+put_step slot t name pre meta hashed components expect = put_on slot.alive slot t name pre meta hashed components expect

@@ -1,6 +1,8 @@
 //! What a change does to the metadata of an object or to the settings of a bucket.
+use crate::copying::Copied;
 use crate::list::List;
 use crate::text::Text;
+use std::alloc::AllocError;
 
 /// What a change does to one field.
 #[derive(Drop)]
@@ -10,6 +12,16 @@ pub enum Set<T> {
     /// The field gets its default, or goes.
     Clear,
     To(T),
+}
+
+impl<T: Copied> Copied for Set<T> {
+    fn copy(&self) -> Result<Set<T>, AllocError> {
+        match self {
+            Set::Keep => Ok(Set::Keep),
+            Set::Clear => Ok(Set::Clear),
+            Set::To(value) => Ok(Set::To(value.copy()?)),
+        }
+    }
 }
 
 /// A change of an object's metadata. `custom_time` is in microseconds since 1970.
@@ -28,6 +40,22 @@ pub struct MetaChange {
     pub custom: Set<List<(Text, Option<Text>)>>,
 }
 
+impl Copied for MetaChange {
+    fn copy(&self) -> Result<MetaChange, AllocError> {
+        Ok(MetaChange {
+            content_type: self.content_type.copy()?,
+            cache_control: self.cache_control.copy()?,
+            content_disposition: self.content_disposition.copy()?,
+            content_encoding: self.content_encoding.copy()?,
+            content_language: self.content_language.copy()?,
+            custom_time: self.custom_time.copy()?,
+            temporary_hold: self.temporary_hold.copy()?,
+            event_hold: self.event_hold.copy()?,
+            custom: self.custom.copy()?,
+        })
+    }
+}
+
 /// A change of a bucket's settings. Periods and durations are in seconds. `labels` is read as `custom` of `MetaChange`.
 #[derive(Drop)]
 pub struct SettingsChange {
@@ -38,4 +66,18 @@ pub struct SettingsChange {
     pub retention_period: Set<u64>,
     pub soft_seconds: Set<u64>,
     pub storage_class: Set<Text>,
+}
+
+impl Copied for SettingsChange {
+    fn copy(&self) -> Result<SettingsChange, AllocError> {
+        Ok(SettingsChange {
+            labels: self.labels.copy()?,
+            lifecycle: self.lifecycle.copy()?,
+            versioned: self.versioned.copy()?,
+            default_event_hold: self.default_event_hold.copy()?,
+            retention_period: self.retention_period.copy()?,
+            soft_seconds: self.soft_seconds.copy()?,
+            storage_class: self.storage_class.copy()?,
+        })
+    }
 }

@@ -3,6 +3,7 @@
 #![tactic(auto)]
 
 mod changes;
+mod changing;
 mod command;
 mod copying;
 mod desk;
@@ -29,7 +30,7 @@ pub use command::{Answer, Command, Entry};
 pub use copying::Copied;
 pub use desk::{Desk, Unheld};
 pub use hashed::Hashed;
-pub use laws::{law_answers, law_fit, law_generations};
+pub use laws::{law_answers, law_covered, law_fit, law_generations};
 pub use list::List;
 pub use listing::{Page, PageQuery, Unit, View};
 pub use moment::{LAST_READING, effective, shard_of};
@@ -37,6 +38,7 @@ pub use names::{BucketName, Name};
 pub use pairs::Pairs;
 pub use policy::{Cover, PreResult, Retired};
 pub use reason::{Digest, Key, Reason};
+pub use refusals::key_text;
 pub use rewriting::{RewriteReply, RewriteToken};
 pub use settings::{Meta, Pre, Retention, Settings};
 pub use text::Text;

@@ -64,6 +64,13 @@ impl<T> List<T> {
         self.items.is_empty()
     }
 
+    /// The empty list, in the memory that this one is in.
+    pub fn emptied(&self) -> List<T>
+        ensures { result ≡ [] }
+    {
+        List::new(*self.items.allocator())
+    }
+
     pub fn get(&self, at: usize) -> Option<&T>
         ensures value { option_copied result ≡ slice_get self.now at }
         ensures within { OnSome result (at < length self.now) }

@@ -97,7 +97,8 @@ fn text_of_digest(alloc: Global, digest: Digest) -> Result<String, AllocError>
     }
 }
 
-fn key_text(key: Key) -> &'static str
+/// The name of a part of a request, as requests write it and messages show it.
+pub fn key_text(key: Key) -> &'static str
     ensures { result.now ≡ key_name key }
 {
     match key {

@@ -1,10 +1,11 @@
-// The texts of refusals, the digests of a content, moments, shards and copies.
+// The texts of refusals, the digests of a content, moments, shards, copies and changes.
 ghost use Rattle.std.specs.Prelude.{◌≡◌, []};
 ghost use Rattle.gcs_chunks.specs.Content.{bytes_of};
 
 use crate::{
     BucketName, BucketRow, Copied, Digest, Expect, Hashed, Key, Kind, LAST_READING, List, Meta,
-    Name, Pairs, Pre, Reason, Row, Settings, Text, Unit, Upload, UploadState, effective, shard_of,
+    MetaChange, Name, Pairs, Pre, Reason, Retention, Row, Set, Settings, SettingsChange, Text,
+    Unit, Upload, UploadState, effective, shard_of,
 };
 use gcs_chunks::{Chunks, Content, Piece};
 use std::alloc::{AllocError, Global};
@@ -293,5 +294,107 @@ fn a_list_is_copied_in_its_order(rt: HostRuntime) -> Result<(), Fail> {
     for (unit, want) in copy.as_slice().iter().zip(["a", "b/"]) {
         assert_eq!(rt; unit.text.as_str(), want);
     }
+    Ok(())
+}
+
+// Sets one pair, or removes it, and keeps all else.
+fn pair_change(alloc: Global, key: &str, value: Option<&str>) -> Result<MetaChange, AllocError> {
+    let value = match value {
+        Some(value) => Some(Text::from_str(alloc, value)?),
+        None => None,
+    };
+    let key = Text::from_str(alloc, key)?;
+    let mut pairs = List::new(alloc);
+    pairs.push((key, value))?;
+    Ok(MetaChange {
+        content_type: Set::Keep,
+        cache_control: Set::Keep,
+        content_disposition: Set::Keep,
+        content_encoding: Set::Keep,
+        content_language: Set::Keep,
+        custom_time: Set::Keep,
+        temporary_hold: Set::Keep,
+        event_hold: Set::Keep,
+        custom: Set::To(pairs),
+    })
+}
+
+fn pair_changed(
+    alloc: Global,
+    meta: &Meta,
+    key: &str,
+    value: Option<&str>,
+    whole: bool,
+) -> Result<Meta, AllocError> {
+    pair_change(alloc, key, value)?.applied(meta, whole)
+}
+
+/// How many pairs there are, their bytes, and whether the hold stands.
+fn facts(meta: &Meta) -> (usize, u64, bool) {
+    (
+        meta.custom.as_slice().len(),
+        meta.custom.size(),
+        meta.temporary_hold,
+    )
+}
+
+fn pairs_changed(alloc: Global) -> Result<[(usize, u64, bool); 4], AllocError> {
+    let meta = metadata(alloc, Text::from_str(alloc, "text/plain")?);
+    let first = pair_changed(alloc, &meta, "k", Some("v"), false)?;
+    let second = pair_changed(alloc, &first, "j", Some("one"), false)?;
+    let third = pair_changed(alloc, &second, "k", None, false)?;
+    let last = pair_changed(alloc, &second, "k", None, true)?;
+    Ok([facts(&first), facts(&second), facts(&third), facts(&last)])
+}
+
+#[test]
+fn a_whole_change_sets_what_it_does_not_name_to_its_default(rt: HostRuntime) -> Result<(), Fail> {
+    let want = [(1, 2, true), (2, 6, true), (1, 4, true), (0, 0, false)];
+    assert_eq!(rt; pairs_changed(rt.alloc())?, want);
+    Ok(())
+}
+
+fn settings_change(retention_period: Set<u64>, soft_seconds: Set<u64>) -> SettingsChange {
+    SettingsChange {
+        labels: Set::Keep,
+        lifecycle: Set::Keep,
+        versioned: Set::Keep,
+        default_event_hold: Set::Keep,
+        retention_period,
+        soft_seconds,
+        storage_class: Set::Keep,
+    }
+}
+
+/// The policy, the soft-delete duration, and since when that is in force.
+fn durations(settings: &Settings) -> (Option<Retention>, u64, u64) {
+    (
+        settings.retention,
+        settings.soft_seconds,
+        settings.soft_since,
+    )
+}
+
+fn settings_changed(alloc: Global) -> Result<[(Option<Retention>, u64, u64); 3], AllocError> {
+    let row = copied_bucket(alloc)?;
+    let first = settings_change(Set::To(10), Set::Keep).applied(&row.settings, false, START + 1)?;
+    let second = settings_change(Set::Keep, Set::To(0)).applied(&first, false, START + 2)?;
+    let last = settings_change(Set::Keep, Set::Keep).applied(&second, true, START + 3)?;
+    Ok([durations(&first), durations(&second), durations(&last)])
+}
+
+#[test]
+fn a_policy_and_a_duration_are_in_force_since_they_are_set(rt: HostRuntime) -> Result<(), Fail> {
+    let policy = Some(Retention {
+        period: 10,
+        since: START + 1,
+        locked: false,
+    });
+    let want = [
+        (policy, 604_800, START),
+        (policy, 0, START + 2),
+        (None, 604_800, START + 3),
+    ];
+    assert_eq!(rt; settings_changed(rt.alloc())?, want);
     Ok(())
 }

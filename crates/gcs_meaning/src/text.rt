@@ -43,6 +43,13 @@ impl Text {
         })
     }
 
+    /// Another text, in the memory that this one is in. `Err`: no memory.
+    pub fn another(&self, text: &str) -> Result<Text, AllocError>
+        ensures { IfOk result (λ made. made ≡ text.now) }
+    {
+        Text::from_str(*self.text.allocator(), text)
+    }
+
     pub fn as_str(&self) -> &str
         ensures { result.now ≡ self.now }
     {

@@ -14,7 +14,7 @@ mod tests;
 
 pub use cover::covered;
 pub use lock::may_change_policy;
-pub use preconditions::holds;
+pub use preconditions::{bucket_holds, holds};
 pub use retirement::retire;
 
 const MICROSECONDS_PER_SECOND: u64 = 1_000_000;

@@ -1,6 +1,6 @@
 //! The four preconditions of a request.
 ghost use Rattle.std.specs.Prelude.{◌≡◌};
-ghost use Rattle.gcs_meaning.specs.Policy.{and_then, must_be, must_not_be, pre_of};
+ghost use Rattle.gcs_meaning.specs.Policy.{and_then, bucket_pre_of, must_be, must_not_be, pre_of};
 
 use gcs_meaning::{Key, Pre, PreResult};
 
@@ -29,6 +29,27 @@ pub fn holds(pre: &Pre, generation: u64, metageneration: u64) -> PreResult
         generation_is,
         first_failure(generation_not, on_metageneration),
     )
+}
+
+/// Whether the preconditions on a metageneration hold of a bucket's; `Fails` tells the first that doesn't. Those on
+/// a generation are passed over: a bucket has none.
+///
+/// Source: Cloud Storage, "Request preconditions".
+#[tactic(auto, unfolding(gcs_meaning::specs::Policy::bucket_pre_of))]
+pub fn bucket_holds(pre: &Pre, metageneration: u64) -> PreResult
+    ensures { result ≡ bucket_pre_of pre.now metageneration }
+{
+    let wanted = test_match(
+        Key::IfMetagenerationMatch,
+        pre.metageneration_is,
+        metageneration,
+    );
+    let unwanted = test_not_match(
+        Key::IfMetagenerationNotMatch,
+        pre.metageneration_not,
+        metageneration,
+    );
+    first_failure(wanted, unwanted)
 }
 
 fn first_failure(first: PreResult, second: PreResult) -> PreResult

@@ -2,7 +2,7 @@
 ghost use Rattle.std.specs.Prelude.{IfOk};
 ghost use Rattle.gcs_meaning.specs.Policy.{AreInLimits, IsDuration};
 
-use crate::{covered, holds, may_change_policy, retire};
+use crate::{bucket_holds, covered, holds, may_change_policy, retire};
 use gcs_meaning::{
     Cover, Key, Kind, LAST_READING, Pairs, Pre, PreResult, Reason, Retention, Retired, RowFacts,
     Settings, Text,
@@ -112,6 +112,23 @@ fn the_first_precondition_that_fails_is_told(rt: HostRuntime) {
         };
         assert_eq!(rt; holds(&pre, generation, metageneration), fails);
     }
+}
+
+#[test]
+fn a_bucket_is_tested_on_its_metageneration_alone(rt: HostRuntime) {
+    let pre = Pre {
+        generation_is: Some(7),
+        generation_not: Some(1),
+        metageneration_is: Some(1),
+        metageneration_not: Some(2),
+    };
+    let fails = PreResult::Fails {
+        which: Key::IfMetagenerationMatch,
+        wanted: 1,
+        found: 2,
+    };
+    assert_eq!(rt; bucket_holds(&pre, 1), PreResult::Holds);
+    assert_eq!(rt; bucket_holds(&pre, 2), fails);
 }
 
 #[test]

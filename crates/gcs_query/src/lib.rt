@@ -6,5 +6,5 @@ mod reading;
 mod tests;
 mod values;
 
-pub use reading::{Query, QueryFault, read_query};
+pub use reading::{Query, QueryFault, decoded, read_query};
 pub use values::BadValue;

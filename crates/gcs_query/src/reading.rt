@@ -147,8 +147,11 @@ fn decoded_text(alloc: Global, text: &[u8]) -> Result<String, TextFault>
     }
 }
 
-// The bytes that a key or a value stands for.
-fn decoded(alloc: Global, text: &[u8]) -> Result<Vec<u8>, AllocError>
+/// The bytes that a key or a value of a raw pair stands for, whether they are text or not: `+` is a space, and `%`
+/// with two hexadecimal digits is a byte. `Err`: no memory.
+///
+/// Source: URL Standard, section 5.1.
+pub fn decoded(alloc: Global, text: &[u8]) -> Result<Vec<u8>, AllocError>
     ensures { IfOk result (λ bytes. bytes.items ≡ form.decode text.now) }
 {
     let spaced = with_spaces(alloc, text)?;

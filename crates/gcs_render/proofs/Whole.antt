@@ -1,7 +1,6 @@
 -- What replies show has no float, so that its compact text is known.
-use Rattle.std.proofs.Common.{◌≡◌, ℕ, List, [], ◌∷◌, ◌++◌, Bool, true, false, ◌||◌, Option, Some, None, option_map, option_and_then, Ordering, Less, Equal, Greater, nat_cmp, map, refl}
+use Rattle.std.proofs.Common.{◌≡◌, ℕ, List, [], ◌∷◌, ◌++◌, Bool, true, false, ◌||◌, Option, Some, None, option_map, option_and_then, Ordering, Less, Equal, Greater, nat_cmp, map, refl, if◌then◌else◌}
 use Rattle.std.proofs.lemmas.Bool.{or_parts}
-use Rattle.std.proofs.lemmas.List.Elements.{All-head, All-tail}
 use Rattle.std.specs.Cmp.Lexicographic.{slice_cmp}
 use Rattle.std.specs.Option.{ForSome}
 use Rattle.std.specs.Ordering.{match_ordering}
@@ -22,8 +21,7 @@ use Rattle.gcs_render.specs.Fields.{Field, put_where, with_fields, object_of, te
 use Rattle.gcs_render.specs.Lists.{object_list, list_fields, list_data, bucket_list, buckets_fields, buckets_data, rewrite_fields, rewrite_data}
 use Rattle.gcs_render.specs.PageTokens.{page_token}
 use Rattle.gcs_render.specs.Refusals.{error_data}
-use Rattle.gcs_render.specs.Resources.{noncurrent_since, soft_since, hard_time, retained_until, version_fields, content_fields, meta_fields, state_fields, object_fields, object_data, retention_if, versioning_if, settings_fields, bucket_fields, bucket_data}
-use Rattle.gcs_render.specs.Whole.{HasWholeLifecycle, HaveWholeLifecycles}
+use Rattle.gcs_render.specs.Resources.{noncurrent_since, soft_since, hard_time, retained_until, version_fields, content_fields, meta_fields, state_fields, object_fields, object_data, retention_if, versioning_if, if_whole, whole_value, settings_fields, bucket_fields, bucket_data}
 
 -- ---- members
 
@@ -161,15 +159,26 @@ object_data-whole bucket row settings =
 
 -- ---- buckets
 
-settings_fields-whole : (settings : Settings) → HasWholeLifecycle settings → fields_have_float (settings_fields settings) ≡ false
-settings_fields-whole settings whole =
-    rw (where_true-whole settings.default_event_hold, pairs_if-whole settings.labels, some-whole (option_and_then read settings.lifecycle) whole, retention_if-whole settings.retention, versioning_if-whole settings.versioned)
+value-whole : (value : Data) (b : Bool) → has_float value ≡ b → value_has_float (if b then None else Some value) ≡ false
+value-whole value true is = refl
+value-whole value false is = is
 
--- the resource of a bucket has no float where its lifecycle has none
-pub bucket_data-whole : (row : BucketRow) → HasWholeLifecycle row.settings → has_float (bucket_data row) ≡ false
+if_whole-whole : (value : Option Data) → value_has_float (option_and_then if_whole value) ≡ false
+if_whole-whole None = refl
+if_whole-whole (Some value) = value-whole value (has_float value) refl
+
+lifecycle-whole : (text : Option (List ℕ)) → value_has_float (option_and_then whole_value text) ≡ false
+lifecycle-whole None = refl
+lifecycle-whole (Some text) = if_whole-whole (read text)
+
+settings_fields-whole : (settings : Settings) → fields_have_float (settings_fields settings) ≡ false
+settings_fields-whole settings =
+    rw (where_true-whole settings.default_event_hold, pairs_if-whole settings.labels, lifecycle-whole settings.lifecycle, retention_if-whole settings.retention, versioning_if-whole settings.versioned)
+
+-- the resource of a bucket has no float
+pub bucket_data-whole : (row : BucketRow) → has_float (bucket_data row) ≡ false
 unfolding bucket_data
-bucket_data-whole row whole =
-    object_of-whole (bucket_fields row) (settings_fields-whole row.settings whole)
+bucket_data-whole row = object_of-whole (bucket_fields row) (settings_fields-whole row.settings)
 
 -- ---- errors
 
@@ -196,18 +205,15 @@ list_data-whole bucket page =
     let prefixes = array_if-whole (map string page.prefixes) (texts-whole page.prefixes) in
     object_of-whole (list_fields bucket page) (rw (items, prefixes, text_if-whole (option_map page_token page.next)))
 
--- nor have the resources of several buckets, where no lifecycle has one
-bucket_list-whole : (rows : List BucketRow) → HaveWholeLifecycles rows → items_have_float (items_of (bucket_list rows)) ≡ false
-bucket_list-whole [] whole = refl
-bucket_list-whole (row ∷ rows) whole =
-    let first : HasWholeLifecycle row.settings = All-head (λ r. HasWholeLifecycle r.settings) row rows whole in
-    let rest : HaveWholeLifecycles rows = All-tail (λ r. HasWholeLifecycle r.settings) row rows whole in
-    rw (bucket_data-whole row first, bucket_list-whole rows rest)
+-- nor have the resources of several buckets
+bucket_list-whole : (rows : List BucketRow) → items_have_float (items_of (bucket_list rows)) ≡ false
+bucket_list-whole [] = refl
+bucket_list-whole (row ∷ rows) = rw (bucket_data-whole row, bucket_list-whole rows)
 
--- a page of the list of buckets has no float where no lifecycle has one
-pub buckets_data-whole : (rows : List BucketRow) (token : Option (List ℕ)) → HaveWholeLifecycles rows → has_float (buckets_data rows token) ≡ false
-buckets_data-whole rows token whole =
-    object_of-whole (buckets_fields rows token) (rw (array_if-whole (bucket_list rows) (bucket_list-whole rows whole), text_if-whole token))
+-- a page of the list of buckets has no float
+pub buckets_data-whole : (rows : List BucketRow) (token : Option (List ℕ)) → has_float (buckets_data rows token) ≡ false
+buckets_data-whole rows token =
+    object_of-whole (buckets_fields rows token) (rw (array_if-whole (bucket_list rows) (bucket_list-whole rows), text_if-whole token))
 
 -- a rewrite's answer has no float where its resource has none
 pub rewrite_data-whole : (reply : RewriteReply) (resource : Option Data) → ForSome resource (λ d. has_float d ≡ false) → has_float (rewrite_data reply resource) ≡ false

@@ -3,5 +3,4 @@ pub mod Resources
 pub mod Refusals
 pub mod PageTokens
 pub mod Lists
-pub mod Whole
 pub mod Laws

@@ -13,6 +13,7 @@ use Rattle.gcs_crc.specs.Crc.{crc}
 use Rattle.gcs_crc.specs.Text.{crc_text_of, md5_text_of}
 use Rattle.serde_json.specs.Data.{Data}
 use Rattle.serde_json.specs.Read.{read}
+use Rattle.serde_json.specs.Written.{has_float}
 use Rattle.gcs_render.specs.Fields.{Field, object_of, text, text_if, long, count_if, truth, where_true, time, time_if, pairs_if, inner}
 
 -- ---- parts of a resource
@@ -158,12 +159,20 @@ retention_if policy = option_map (λ p. object_of (retention_fields p)) policy
 abbrev pub versioning_if : Bool → Option Data
 versioning_if versioned = if versioned then inner ((codes "enabled", truth true) ∷ []) else None
 
--- what stands where it is set; a lifecycle whose text has no reading isn't shown
+-- a value, if its numbers are whole
+abbrev pub if_whole : Data → Option Data
+if_whole value = if has_float value then None else Some value
+
+-- what a text is read as (RFC 8259), if its numbers are whole
+abbrev pub whole_value : List ℕ → Option Data
+whole_value text = option_and_then if_whole (read text)
+
+-- what stands where it is set; a lifecycle whose text has no such reading isn't shown
 abbrev pub settings_fields : Settings → List Field
 settings_fields settings =
     (codes "defaultEventBasedHold", where_true settings.default_event_hold)
     ∷ (codes "labels", pairs_if settings.labels)
-    ∷ (codes "lifecycle", option_and_then read settings.lifecycle)
+    ∷ (codes "lifecycle", option_and_then whole_value settings.lifecycle)
     ∷ (codes "retentionPolicy", retention_if settings.retention)
     ∷ (codes "versioning", versioning_if settings.versioned)
     ∷ []

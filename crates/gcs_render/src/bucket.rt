@@ -1,14 +1,13 @@
 // The resource of a bucket: what is shown of its names, times and settings.
 ghost use Rattle.std.specs.Prelude.{◌≡◌, false, IfOk, OnOk, option_map, option_and_then, codes};
-ghost use Rattle.serde_json.specs.Read.{read};
 ghost use Rattle.serde_json.specs.View.{view};
 ghost use Rattle.serde_json.specs.Written.{has_float};
 ghost use Rattle.gcs_render.specs.Fields.{held, put_where, with_fields, object_of};
-ghost use Rattle.gcs_render.specs.Resources.{name_fields, fixed_fields, settings_fields, soft_policy_fields, retention_fields, retention_if, versioning_if, bucket_data};
-ghost use Rattle.gcs_render.specs.Whole.{HasWholeLifecycle};
+ghost use Rattle.gcs_render.specs.Resources.{name_fields, fixed_fields, settings_fields, soft_policy_fields, retention_fields, retention_if, versioning_if, whole_value, bucket_data};
 
 use crate::fields::Fields;
 use crate::object::etag_text;
+use gcs_json::has_float;
 use gcs_meaning::{BucketRow, Retention, Settings, Text};
 use serde_json::Value;
 use std::alloc::{AllocError, Global};
@@ -20,7 +19,7 @@ use std::alloc::{AllocError, Global};
 #[tactic(auto, unfolding(crate::specs::Resources::bucket_data))]
 pub fn bucket_value(alloc: Global, row: &BucketRow) -> Result<Value, AllocError>
     ensures value { IfOk result (λ value. view value ≡ bucket_data row.now) }
-    ensures whole { IfOk result (λ value. HasWholeLifecycle row.now.settings → has_float (view value) ≡ false) }
+    ensures whole { IfOk result (λ value. has_float (view value) ≡ false) }
 {
     let mut fields = Fields::new(alloc);
     put_names(alloc, &mut fields, row)?;
@@ -78,14 +77,15 @@ fn soft_policy_value(alloc: Global, settings: &Settings) -> Result<Value, AllocE
     Ok(fields.into_value())
 }
 
-// A text that has no reading is not shown.
+// A text that has no reading, or one with a number that is not whole, is not shown.
 fn lifecycle_value(alloc: Global, text: &Option<Text>) -> Result<Option<Value>, AllocError>
-    ensures { IfOk result (λ value. option_map view value ≡ option_and_then read text.now) }
+    ensures { IfOk result (λ value. option_map view value ≡ option_and_then whole_value text.now) }
 {
     let Some(text) = text else {
         return Ok(None);
     };
     match Value::from_str(alloc, text.as_str()) {
+        Ok(value) if has_float(&value) => Ok(None),
         Ok(value) => Ok(Some(value)),
         Err(error) => {
             if error.is_memory() {

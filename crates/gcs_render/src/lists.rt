@@ -6,7 +6,6 @@ ghost use Rattle.serde_json.specs.View.{view};
 ghost use Rattle.serde_json.specs.Written.{has_float};
 ghost use Rattle.gcs_render.specs.PageTokens.{page_token};
 ghost use Rattle.gcs_render.specs.Lists.{object_list, bucket_list, list_data, buckets_data, rewrite_data};
-ghost use Rattle.gcs_render.specs.Whole.{HaveWholeLifecycles};
 
 use crate::bucket::bucket_value;
 use crate::fields::Fields;
@@ -45,7 +44,7 @@ pub fn buckets_value(
 ) -> Result<Value, AllocError>
     ensures value { IfOk result
         (λ value. view value ≡ buckets_data rows.now (option_map (λ t. t.now) token.entry)) }
-    ensures whole { IfOk result (λ value. HaveWholeLifecycles rows.now → has_float (view value) ≡ false) }
+    ensures whole { IfOk result (λ value. has_float (view value) ≡ false) }
 {
     let mut fields = Fields::new(alloc);
     fields.text("kind", "storage#buckets")?;

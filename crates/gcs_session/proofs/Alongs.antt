@@ -1,5 +1,5 @@
 -- A connection, piece by piece.
-use Rattle.std.proofs.Common.{◌≡◌, ◌≢◌, ℕ, nat_eq, nat_lt, ◌&&◌, ◌+◌, ◌<◌, ◌≤◌, Bool, true, false, List, [], ◌∷◌, ◌++◌, length, take, drop, Option, Some, None, Result, Ok, Err, refl, ap, sym, subst, ◌∙◌, arith, append-nil, append_assoc, length-append}
+use Rattle.std.proofs.Common.{◌≡◌, ◌≢◌, ℕ, nat_eq, nat_lt, ◌&&◌, ◌+◌, ◌<◌, ◌≤◌, Bool, true, false, List, [], ◌∷◌, ◌++◌, length, take, drop, Option, Some, Result, Ok, Err, refl, ap, sym, subst, ◌∙◌, arith, append-nil, append_assoc, length-append}
 use Rattle.std.specs.Prelude.{is_err, OnOk, if◌then◌else◌}
 use Rattle.std.specs.List.{list_all}
 use Rattle.std.proofs.lemmas.List.{append_cancel_left, take-append-drop, take_all, drop_all, length-take, length-drop}
@@ -7,14 +7,11 @@ use Rattle.std.proofs.lemmas.Bool.Decides.{nat_tests}
 use Rattle.gcs_io.specs.declared.Failed.{Failed}
 use Rattle.gcs_io.specs.Told.{Gains, is_end}
 use Rattle.gcs_http_in.specs.declared.limits.Limits.{Limits}
-use Rattle.gcs_http_in.specs.declared.framer.Framer.{Framer}
 use Rattle.gcs_http_in.specs.Lines.{is_end_byte}
 use Rattle.gcs_http_in.specs.Message.{Message, AllKeep, IsSpelled, Spells}
-use Rattle.gcs_http_in.specs.Progress.{Current}
-use Rattle.gcs_http_in.specs.Stands.{Stands, limits_of}
 use Rattle.gcs_http_in.specs.Usual.{IsAllowed}
 use Rattle.gcs_http_in.proofs.StandsReads.{reads}
-use Rattle.gcs_meaning.specs.Desk.{Histories, AreLists}
+use Rattle.gcs_meaning.specs.Desk.{Histories}
 use Rattle.gcs_session.specs.declared.ends.SessionEnd.TheVariants.{Closed, Cut, Ended, NoMemory, ReadFault, WriteFault}
 use Rattle.gcs_session.specs.declared.session.Session.{Session}
 use Rattle.gcs_session.specs.declared.session.Fed.{Fed}
@@ -22,9 +19,9 @@ use Rattle.gcs_session.specs.declared.session.Want.TheVariants.{More, Drain, Clo
 use Rattle.gcs_session.specs.declared.ends.SessionEnd.{SessionEnd}
 use Rattle.gcs_session.specs.Along.{AlongTo, IsAlong}
 use Rattle.gcs_session.specs.Connection.{IsServed, Moved, Outside, SpellsFirst}
-use Rattle.gcs_session.specs.Running.{Grows, lengths}
-use Rattle.gcs_session.specs.Served.{Answers, Serves}
-use Rattle.gcs_session.specs.Session.{IsClosedBy, IsDrained, IsFed, IsReading, IsSession, IsWanted, IsWantOf, Seen, limits_in, waiting_in}
+use Rattle.gcs_session.specs.Running.{lengths}
+use Rattle.gcs_session.specs.Served.{Serves}
+use Rattle.gcs_session.specs.Session.{IsClosedBy, IsDrained, IsFed, IsSession, IsWanted, IsWantOf, Seen, limits_in, waiting_in}
 use Rattle.gcs_session.specs.Writing.{IsWritten}
 use Rattle.gcs_session.proofs.Drops.{nothing-left}
 use Rattle.gcs_session.proofs.Serving.{one-served, serves-append, serves-kept}
@@ -94,12 +91,12 @@ pub record IsInside (b c : Outside) : Type 0 where
 pub record IsFedAlong (limits : Limits) (caller : ℕ) (a c : Outside) (s : Session) (fed left : List ℕ) (messages : List Message) (text drained moments : List ℕ) : Type 0 where
   pub moved : Moved caller a c (fed ++ left) drained moments
   pub session : IsSession s fed messages text drained
-  pub served : Serves messages moments c.saw caller (lengths a.own) text (lengths c.own)
+  pub served : Serves limits messages moments c.saw caller (lengths a.own) text (lengths c.own)
 
-pub along-fed : (limits : Limits) (caller : ℕ) (a b c : Outside) (s t : Session) (piece : List ℕ) (fed : Fed) (x : IsAlong limits caller a b s piece) → IsInside b c
+pub along-fed : (limits : Limits) (caller : ℕ) (a b c : Outside) (s t : Session) (piece : List ℕ) (fed : Fed) (x : IsAlong limits caller a b s piece) → IsInside b c → limits_in t ≡ limits
     → (f : IsFed caller (seen_of b) (seen_of c) t piece fed x.fed x.messages x.text x.text)
     → IsFedAlong limits caller a c t (x.fed ++ take fed.taken piece) (drop fed.taken piece) (x.messages ++ f.told) (x.text ++ f.reply) x.text (x.moments ++ f.moments)
-along-fed limits caller a b c s t piece fed x inside f =
+along-fed limits caller a b c s t piece fed x inside are f =
     let whole : (x.fed ++ take fed.taken piece) ++ drop fed.taken piece ≡ x.fed ++ piece = append_assoc x.fed (take fed.taken piece) (drop fed.taken piece) ∙ ap (λ (l : List ℕ). x.fed ++ l) (take-append-drop fed.taken piece) in
     record {
       moved = record {
@@ -110,7 +107,8 @@ along-fed limits caller a b c s t piece fed x inside f =
         sound = λ l. f.sound (x.moved.sound l);
       };
       session = f.session;
-      served = serves-append x.messages f.told x.moments f.moments b.saw c.saw caller (lengths a.own) (lengths b.own) (lengths c.own) x.text f.reply f.grows x.served f.served;
+      served = serves-append limits x.messages f.told x.moments f.moments b.saw c.saw caller (lengths a.own) (lengths b.own) (lengths c.own) x.text f.reply f.grows x.served
+          (subst (λ l. Serves l f.told f.moments c.saw caller (lengths b.own) f.reply (lengths c.own)) are f.served);
     }
 
 -- the reply is what waits
@@ -207,20 +205,21 @@ along-drained limits caller a c written s t fed left messages text reply moments
     }
 
 -- a message was answered where something waits
-pub one-told : (told : List Message) (moments : List ℕ) (h : Histories) (caller : ℕ) (from : ℕ → ℕ) (reply waiting : List ℕ) (to : ℕ → ℕ) → length told ≤ 1 → Serves told moments h caller from reply to → reply ≡ waiting → waiting ≢ []
+pub one-told : (limits : Limits) (told : List Message) (moments : List ℕ) (h : Histories) (caller : ℕ) (from : ℕ → ℕ) (reply waiting : List ℕ) (to : ℕ → ℕ) → length told ≤ 1 → Serves limits told moments h caller from reply to → reply ≡ waiting → waiting ≢ []
     → (m : Message) × (told ≡ m ∷ [])
-one-told [] moments h caller from reply waiting to few x same some = absurd (some (sym same ∙ x.1))
-one-told (m ∷ []) moments h caller from reply waiting to few x same some = (m, refl)
-one-told (m ∷ n ∷ ms) moments h caller from reply waiting to few x same some = absurd (let more : 1 < length (m ∷ n ∷ ms) = omega arith in omega (arith, few, more))
+one-told limits [] moments h caller from reply waiting to few x same some = absurd (some (sym same ∙ x.1))
+one-told limits (m ∷ []) moments h caller from reply waiting to few x same some = (m, refl)
+one-told limits (m ∷ n ∷ ms) moments h caller from reply waiting to few x same some = absurd (let more : 1 < length (m ∷ n ∷ ms) = omega arith in omega (arith, few, more))
 
 -- the reply was broken off
 pub along-broken : (limits : Limits) (caller : ℕ) (a b c : Outside) (written : Option (List ℕ)) (s t : Session) (piece : List ℕ) (fed : Fed) (w more : List ℕ) (x : IsAlong limits caller a b s piece) → IsInside b c
     → (f : IsFed caller (seen_of b) (seen_of c) t piece fed x.fed x.messages x.text x.text) → limits_in t ≡ limits → Gains c.written written w → waiting_in t ≡ w ++ more → 0 < length more
     → IsServed limits caller a (record c { written = written }) false WriteFault
 along-broken limits caller a b c written s t piece fed w more x inside f are wrote part some =
-    let y = along-fed limits caller a b c s t piece fed x inside f in
+    let y = along-fed limits caller a b c s t piece fed x inside are f in
     let waits : f.reply ≡ waiting_in t = reply-waits t (x.fed ++ take fed.taken piece) (x.messages ++ f.told) x.text f.reply y.session in
-    let told = one-told f.told f.moments c.saw caller (lengths b.own) f.reply (waiting_in t) (lengths c.own) f.one f.served waits (λ none. some-none w more part some none) in
+    let served : Serves limits f.told f.moments c.saw caller (lengths b.own) f.reply (lengths c.own) = subst (λ l. Serves l f.told f.moments c.saw caller (lengths b.own) f.reply (lengths c.own)) are f.served in
+    let told = one-told limits f.told f.moments c.saw caller (lengths b.own) f.reply (waiting_in t) (lengths c.own) f.one served waits (λ none. some-none w more part some none) in
     let first = first-spelled limits t (x.fed ++ take fed.taken piece) (drop fed.taken piece) (x.messages ++ f.told) (x.text ++ f.reply) x.text are y.session in
     record {
       input = (x.fed ++ take fed.taken piece) ++ drop fed.taken piece;
@@ -252,10 +251,10 @@ along-broken limits caller a b c written s t piece fed w more x inside f are wro
         text_is = ap (λ (l : List ℕ). x.text ++ l) (waits ∙ part);
         output_is = refl;
         some = some;
-        first_served = serves-kept x.messages x.moments b.saw c.saw caller (lengths a.own) x.text (lengths b.own) (lengths b.own) f.grows (λ n. refl) x.served;
-        last_answered = one-served told.0 f.moments c.saw caller (lengths b.own) (w ++ more) (lengths c.own)
-            (subst (λ l. Serves (told.0 ∷ []) f.moments c.saw caller (lengths b.own) l (lengths c.own)) (waits ∙ part)
-            (subst (λ ms. Serves ms f.moments c.saw caller (lengths b.own) f.reply (lengths c.own)) told.1 f.served));
+        first_served = serves-kept limits x.messages x.moments b.saw c.saw caller (lengths a.own) x.text (lengths b.own) (lengths b.own) f.grows (λ n. refl) x.served;
+        last_answered = one-served limits told.0 f.moments c.saw caller (lengths b.own) (w ++ more) (lengths c.own)
+            (subst (λ l. Serves limits (told.0 ∷ []) f.moments c.saw caller (lengths b.own) l (lengths c.own)) (waits ∙ part)
+            (subst (λ ms. Serves limits ms f.moments c.saw caller (lengths b.own) f.reply (lengths c.own)) told.1 served));
       };
       ends = refl;
     }
@@ -295,7 +294,7 @@ unfolding along-more
 fed-more limits caller a b c s t piece fed x inside f same wanted more =
     let want : IsWantOf (waiting_in t) t.closed More = subst (IsWantOf (waiting_in t) t.closed) more wanted.want in (
       along-more limits caller a c t (x.fed ++ take fed.taken piece) (drop fed.taken piece) (x.messages ++ f.told) x.text f.reply (x.moments ++ f.moments) x.allowed (same ∙ x.limits_are)
-          (along-fed limits caller a b c s t piece fed x inside f) want.0 (nothing-left fed.taken piece (wanted.whole more)),
+          (along-fed limits caller a b c s t piece fed x inside (same ∙ x.limits_are) f) want.0 (nothing-left fed.taken piece (wanted.whole more)),
       want.1,
       (let taken : fed.taken ≡ length piece = wanted.whole more in omega (arith, length-append x.fed (take fed.taken piece), length-take fed.taken piece, taken)),
     )
@@ -306,7 +305,7 @@ pub fed-close : (limits : Limits) (caller : ℕ) (a b c : Outside) (s t : Sessio
 fed-close limits caller a b c s t piece fed x inside f same wanted close ended =
     let want : IsWantOf (waiting_in t) t.closed Close = subst (IsWantOf (waiting_in t) t.closed) close wanted.want in
     along-close limits caller a c t (x.fed ++ take fed.taken piece) (drop fed.taken piece) (x.messages ++ f.told) x.text f.reply (x.moments ++ f.moments) (same ∙ x.limits_are)
-    (along-fed limits caller a b c s t piece fed x inside f) want.0 want.1 ended
+    (along-fed limits caller a b c s t piece fed x inside (same ∙ x.limits_are) f) want.0 want.1 ended
 
 -- a piece was fed, and the reply was written whole: there is one message more
 pub fed-drained : (limits : Limits) (caller : ℕ) (a b c : Outside) (written : Option (List ℕ)) (s t u : Session) (piece left w : List ℕ) (fed : Fed) (x : IsAlong limits caller a b s piece) → IsInside b c
@@ -316,9 +315,9 @@ pub fed-drained : (limits : Limits) (caller : ℕ) (a b c : Outside) (written : 
 unfolding along-drained
 fed-drained limits caller a b c written s t u piece left w fed x inside f same wanted drain drained wrote whole over =
     let want : waiting_in t ≢ [] = subst (IsWantOf (waiting_in t) t.closed) drain wanted.want in
-    let y = along-fed limits caller a b c s t piece fed x inside f in
+    let y = along-fed limits caller a b c s t piece fed x inside (same ∙ x.limits_are) f in
     let waits : f.reply ≡ waiting_in t = reply-waits t (x.fed ++ take fed.taken piece) (x.messages ++ f.told) x.text f.reply y.session in
-    let told = one-told f.told f.moments c.saw caller (lengths b.own) f.reply (waiting_in t) (lengths c.own) f.one f.served waits want in
+    let told = one-told (limits_in t) f.told f.moments c.saw caller (lengths b.own) f.reply (waiting_in t) (lengths c.own) f.one f.served waits want in
     let here : IsFedAlong limits caller a c t (x.fed ++ take fed.taken piece) left (x.messages ++ f.told) (x.text ++ f.reply) x.text (x.moments ++ f.moments) =
     subst (λ l. IsFedAlong limits caller a c t (x.fed ++ take fed.taken piece) l (x.messages ++ f.told) (x.text ++ f.reply) x.text (x.moments ++ f.moments)) (sym over) y in (
       along-drained limits caller a c written t u (x.fed ++ take fed.taken piece) left (x.messages ++ f.told) x.text f.reply (x.moments ++ f.moments) w x.allowed (same ∙ x.limits_are) here drained wrote whole,

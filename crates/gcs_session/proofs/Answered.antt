@@ -1,8 +1,9 @@
 -- What a request is answered, as the reply to its message.
-use Rattle.std.proofs.Common.{◌≡◌, ◌⊎◌, inl, inr, ℕ, Bool, true, false, List, [], ◌∷◌, ap, ◌∙◌, subst}
+use Rattle.std.proofs.Common.{◌≡◌, ◌⊎◌, inl, inr, ℕ, Bool, List, [], ◌∷◌, ap, ◌∙◌}
+use Rattle.gcs_http_in.specs.declared.limits.Limits.{Limits}
 use Rattle.gcs_http_in.specs.Head.{Head}
 use Rattle.gcs_meaning.specs.declared.command.Answer.{Answer}
-use Rattle.gcs_meaning.specs.Desk.{Histories, AreLists, AreUnmoved}
+use Rattle.gcs_meaning.specs.Desk.{Histories}
 use Rattle.gcs_session.specs.declared.requests.Request.{Request}
 use Rattle.gcs_session.specs.declared.script.Move.TheVariants.{Say}
 use Rattle.gcs_session.specs.declared.script.Reply.{Reply}
@@ -10,25 +11,24 @@ use Rattle.gcs_session.specs.declared.reply.Form.{Form}
 use Rattle.gcs_session.specs.Calls.{IsCall}
 use Rattle.gcs_session.specs.Scripts.{Asks, Counts, SameCounts, is_some_step, script}
 use Rattle.gcs_session.specs.Replies.{form_of, memory_text, reply_text}
-use Rattle.gcs_session.specs.Running.{Grows, lengths}
 use Rattle.gcs_session.specs.Served.{IsAnswered, Replies}
-use Rattle.gcs_session.proofs.Steps.{Asks-from, grows_same, grows_trans, lists-same, same-lengths}
+use Rattle.gcs_session.proofs.Steps.{Asks-from}
 
 -- memory ran out: which of the two texts it is goes by whether a step was made
-wanting : (head : Head) (body : List ℕ) (keeps : Bool) (q : Request) (moment : ℕ) (h : Histories) (caller : ℕ) (from : Counts) (text : List ℕ) (to : Counts) (answers : List Answer)
-    → IsCall head body q → Asks q [] answers moment h caller from to → text ≡ memory_text (form_of head keeps) (is_some_step answers) → Replies head body keeps moment h caller from text to
-wanting head body keeps q moment h caller from text to [] call asked is = inr (inl record { none = asked; text_is = is })
-wanting head body keeps q moment h caller from text to (a ∷ answers) call asked is =
+wanting : (limits : Limits) (head : Head) (body : List ℕ) (keeps : Bool) (q : Request) (moment : ℕ) (h : Histories) (caller : ℕ) (from : Counts) (text : List ℕ) (to : Counts) (answers : List Answer)
+    → IsCall limits head body q → Asks q [] answers moment h caller from to → text ≡ memory_text (form_of head keeps) (is_some_step answers) → Replies limits head body keeps moment h caller from text to
+wanting limits head body keeps q moment h caller from text to [] call asked is = inr (inl record { none = asked; text_is = is })
+wanting limits head body keeps q moment h caller from text to (a ∷ answers) call asked is =
     inr (inr record { request = q; call = call; first = a; further = answers; asked = asked; text_is = is })
 
 -- the answer to a request is the reply to the message that asks for it
-pub replies-answered : (head : Head) (body : List ℕ) (keeps : Bool) (form : Form) (q : Request) (moment : ℕ) (h : Histories) (caller : ℕ) (from : Counts) (text : List ℕ) (to : Counts)
-    → form ≡ form_of head keeps → IsCall head body q → IsAnswered form q moment h caller from text to → Replies head body keeps moment h caller from text to
-replies-answered head body keeps form q moment h caller from text to is call x =
+pub replies-answered : (limits : Limits) (head : Head) (body : List ℕ) (keeps : Bool) (form : Form) (q : Request) (moment : ℕ) (h : Histories) (caller : ℕ) (from : Counts) (text : List ℕ) (to : Counts)
+    → form ≡ form_of head keeps → IsCall limits head body q → IsAnswered form q moment h caller from text to → Replies limits head body keeps moment h caller from text to
+replies-answered limits head body keeps form q moment h caller from text to is call x =
     let answers : List Answer = x.answers in
     ⊎_case x.text_is
   where
-    ⊎_case : ((reply : Reply) × (script q x.answers ≡ Say reply) × (text ≡ reply_text form q reply)) ⊎ (text ≡ memory_text form (is_some_step x.answers)) → Replies head body keeps moment h caller from text to
+    ⊎_case : ((reply : Reply) × (script q x.answers ≡ Say reply) × (text ≡ reply_text form q reply)) ⊎ (text ≡ memory_text form (is_some_step x.answers)) → Replies limits head body keeps moment h caller from text to
     ⊎_case (inl said) = inl record {
       request = q;
       call = call;
@@ -38,7 +38,7 @@ replies-answered head body keeps form q moment h caller from text to is call x =
       said = said.1;
       text_is = said.2 ∙ ap (λ f. reply_text f q said.0) is;
     }
-    ⊎_case (inr lacked) = wanting head body keeps q moment h caller from text to x.answers call x.asked (lacked ∙ ap (λ f. memory_text f (is_some_step x.answers)) is)
+    ⊎_case (inr lacked) = wanting limits head body keeps q moment h caller from text to x.answers call x.asked (lacked ∙ ap (λ f. memory_text f (is_some_step x.answers)) is)
 
 -- an answer whose lists began as those before
 pub answered-from : (form : Form) (q : Request) (moment : ℕ) (h : Histories) (caller : ℕ) (from from' : Counts) (text : List ℕ) (to : Counts) → SameCounts from from' → IsAnswered form q moment h caller from' text to → IsAnswered form q moment h caller from text to

@@ -1,34 +1,32 @@
 -- What a call of `feed` adds.
-use Rattle.std.proofs.Common.{◌≡◌, ◌≢◌, ℕ, ◌+◌, ◌≤◌, ◌<◌, Bool, true, false, not, List, [], ◌∷◌, ◌++◌, length, take, Option, Some, None, refl, ap, sym, subst, ◌∙◌, arith, append-nil, append_assoc, inl, inr}
-use Rattle.std.specs.List.{AllByRecursion}
+use Rattle.std.proofs.Common.{◌≡◌, ◌≢◌, ℕ, Bool, true, false, not, List, [], ◌∷◌, ◌++◌, take, Option, None, refl, ap, sym, subst, ◌∙◌, arith, append-nil, inl, inr}
 use Rattle.gcs_io.specs.Told.{Gains}
 use Rattle.gcs_http_in.specs.declared.fault.FrameFault.{FrameFault}
 use Rattle.gcs_http_in.specs.declared.limits.Limits.{Limits}
 use Rattle.gcs_http_in.specs.Head.{Head}
 use Rattle.gcs_http_in.specs.Message.{Message, whole, refused, keeps_of, AllKeep}
-use Rattle.gcs_http_in.specs.Progress.{Current}
 use Rattle.gcs_http_in.specs.Stands.{Stands, limits_of}
 use Rattle.gcs_http_out.specs.declared.head.Ending.{Ending}
 use Rattle.gcs_http_out.specs.declared.reply.Fixed.{Fixed}
 use Rattle.gcs_http_out.specs.Head.{head_text}
 use Rattle.gcs_http_out.specs.Fixed.{fixed_text}
-use Rattle.gcs_meaning.specs.Desk.{Histories, AreLists, AreUnmoved}
-use Rattle.gcs_session.specs.declared.coming.Coming.{Coming}
+use Rattle.gcs_meaning.specs.Desk.{Histories, AreUnmoved}
 use Rattle.gcs_session.specs.declared.session.Session.{Session}
 use Rattle.gcs_session.specs.declared.session.Fed.{Fed}
 use Rattle.gcs_session.specs.declared.session.Want.{Want}
 use Rattle.gcs_session.specs.declared.reply.Form.{Form}
 use Rattle.gcs_session.specs.declared.requests.Request.{Request}
 use Rattle.gcs_session.specs.declared.script.Reply.{Reply}
-use Rattle.gcs_session.specs.Replies.{form_of, fault_text, memory_text, reply_text}
+use Rattle.gcs_session.specs.declared.script.Reply.TheVariants as reply
+use Rattle.gcs_session.specs.Replies.{bare_text, form_of, fault_text, memory_text, reply_text}
 use Rattle.gcs_session.specs.Running.{Grows, lengths}
 use Rattle.gcs_session.specs.Served.{Answers, Replies, Serves}
 use Rattle.gcs_session.specs.Scripts.{Counts}
-use Rattle.gcs_session.specs.Session.{IsClosedBy, IsEndedBy, IsFed, IsReading, IsReplied, IsSession, IsUnderWay, Seen, limits_in}
+use Rattle.gcs_session.specs.Session.{IsClosedBy, IsEndedBy, IsFed, IsReplied, IsSession, IsUnderWay, Seen, limits_in}
 use Rattle.gcs_session.specs.Unsent.{unsent_bytes}
 use Rattle.gcs_session.proofs.Gathering.{none-waiting}
 use Rattle.gcs_session.proofs.Serving.{serves-from, serves-one}
-use Rattle.gcs_session.proofs.Steps.{grows_refl, grows_same, grows_trans, lists-same, same-lengths}
+use Rattle.gcs_session.proofs.Steps.{grows_same, grows_trans, lists-same, same-lengths}
 use Rattle.gcs_session.proofs.Tellings.{gains-none}
 
 -- nothing more was read
@@ -101,8 +99,8 @@ fed-end caller a b c s t piece fed bytes messages m text drained given same x no
   grows = grows_trans a.saw b.saw c.saw (grows_same a.saw b.saw same.seen) r.grows;
   sound = λ l. r.sound (lists-same caller a.saw a.own b.saw b.own same l);
   quiet = λ e. absurd (cc);
-  served = serves-from (m ∷ []) r.moments c.saw caller (lengths a.own) (lengths b.own) (unsent_bytes t.unsent) (lengths c.own) (same-lengths a.own b.own same.mine)
-      (serves-one m r.moments c.saw caller (lengths b.own) (unsent_bytes t.unsent) (lengths c.own) r.answers);
+  served = serves-from (limits_in t) (m ∷ []) r.moments c.saw caller (lengths a.own) (lengths b.own) (unsent_bytes t.unsent) (lengths c.own) (same-lengths a.own b.own same.mine)
+      (serves-one (limits_in t) m r.moments c.saw caller (lengths b.own) (unsent_bytes t.unsent) (lengths c.own) r.answers);
   session = ended-session s t (bytes ++ take fed.taken piece) messages m text drained (unsent_bytes t.unsent) x none framer r.coming r.closed refl keep;
 }
 
@@ -119,7 +117,7 @@ fed-fault caller a b s t piece fed bytes messages fault text drained given same 
   grows = grows_same a.saw b.saw same.seen;
   sound = lists-same caller a.saw a.own b.saw b.own same;
   quiet = λ e. absurd (cc);
-  served = serves-one (refused fault) [] b.saw caller (lengths a.own) (fault_text fault) (lengths b.own) (refl, refl, same-lengths a.own b.own same.mine);
+  served = serves-one (limits_in t) (refused fault) [] b.saw caller (lengths a.own) (fault_text fault) (lengths b.own) (refl, refl, same-lengths a.own b.own same.mine);
   session = ended-session s t (bytes ++ take fed.taken piece) messages (refused fault) text drained (fault_text fault) x none framer coming closed unsent keep;
 }
 
@@ -128,18 +126,26 @@ head-some : (status : ℕ) (fields : List (List ℕ × List ℕ)) (size : Option
 unfolding head_text
 head-some status fields size ending more e = cc
 
+bare-some : (form : Form) (status : ℕ) → bare_text form status ≢ []
+unfolding head_text
+bare-some form status e = cc
+
 pub fixed-some : (f : Fixed) → fixed_text f ≢ []
 unfolding fixed_text
 fixed-some f e = head-some _ _ _ _ _ e
 
 pub reply-some : (form : Form) (q : Request) (reply : Reply) → reply_text form q reply ≢ []
-reply-some form q reply e = head-some _ _ _ _ _ e
+reply-some form q reply.NoContent e = bare-some form 204 e
+reply-some form q (reply.Refused reason) e = head-some _ _ _ _ _ e
+reply-some form q (reply.Object row settings) e = head-some _ _ _ _ _ e
+reply-some form q (reply.Bucket row) e = head-some _ _ _ _ _ e
+reply-some form q (reply.Media row part) e = head-some _ _ _ _ _ e
 
-replies-some : (head : Head) (body : List ℕ) (keeps : Bool) (moment : ℕ) (h : Histories) (caller : ℕ) (from : Counts) (text : List ℕ) (to : Counts) → Replies head body keeps moment h caller from text to → text ≢ []
-replies-some head body keeps moment h caller from text to (inl x) e = reply-some (form_of head keeps) x.request x.reply (sym x.text_is ∙ e)
-replies-some head body keeps moment h caller from text to (inr (inl x)) e = fixed-some _ (sym x.text_is ∙ e)
-replies-some head body keeps moment h caller from text to (inr (inr x)) e = fixed-some _ (sym x.text_is ∙ e)
+replies-some : (limits : Limits) (head : Head) (body : List ℕ) (keeps : Bool) (moment : ℕ) (h : Histories) (caller : ℕ) (from : Counts) (text : List ℕ) (to : Counts) → Replies limits head body keeps moment h caller from text to → text ≢ []
+replies-some limits head body keeps moment h caller from text to (inl x) e = reply-some (form_of head keeps) x.request x.reply (sym x.text_is ∙ e)
+replies-some limits head body keeps moment h caller from text to (inr (inl x)) e = fixed-some _ (sym x.text_is ∙ e)
+replies-some limits head body keeps moment h caller from text to (inr (inr x)) e = fixed-some _ (sym x.text_is ∙ e)
 
-pub answer-some : (m : Message) (r : List ℕ) (h : Histories) (caller : ℕ) (from : Counts) (text : List ℕ) (to : Counts) → Answers m r h caller from text to → text ≢ []
-answer-some (whole head body keeps) r h caller from text to (moment, is, x) e = replies-some head body keeps moment h caller from text to x e
-answer-some (refused fault) r h caller from text to x e = fixed-some _ (sym x.1 ∙ e)
+pub answer-some : (limits : Limits) (m : Message) (r : List ℕ) (h : Histories) (caller : ℕ) (from : Counts) (text : List ℕ) (to : Counts) → Answers limits m r h caller from text to → text ≢ []
+answer-some limits (whole head body keeps) r h caller from text to (moment, is, x) e = replies-some limits head body keeps moment h caller from text to x e
+answer-some limits (refused fault) r h caller from text to x e = fixed-some _ (sym x.1 ∙ e)

@@ -1,15 +1,14 @@
 -- What the events of framing make of a session.
-use Rattle.std.proofs.Common.{◌≡◌, ◌≢◌, ℕ, suc, ◌+◌, ◌-◌, ◌≤◌, ◌<◌, Bool, true, false, not, List, [], ◌∷◌, ◌++◌, length, take, drop, Option, Some, None, refl, ap, sym, subst, ◌∙◌, arith, append_assoc, append-nil}
+use Rattle.std.proofs.Common.{◌≡◌, ℕ, ◌+◌, ◌≤◌, Bool, not, List, [], ◌∷◌, ◌++◌, length, take, drop, Option, Some, None, refl, ap, sym, subst, ◌∙◌, arith, append_assoc}
 use Rattle.std.specs.Prelude.{◌==◌, ◌&&◌, slice_range}
-use Rattle.std.specs.List.{AllByRecursion}
-use Rattle.std.proofs.lemmas.List.{take-append-drop, length-take, length-drop, take_all}
+use Rattle.std.proofs.lemmas.List.{take-append-drop, length-take}
 use Rattle.std.proofs.Math.Seq.{take-append-add}
 use Rattle.gcs_http_in.specs.declared.limits.Limits.{Limits}
 use Rattle.gcs_http_in.specs.declared.fault.FrameFault.{FrameFault}
 use Rattle.gcs_http_in.specs.declared.framer.Framer.{Framer}
 use Rattle.gcs_http_in.specs.declared.state.Taken.TheVariants as taken
 use Rattle.gcs_http_in.specs.Head.{Head}
-use Rattle.gcs_http_in.specs.Message.{Message, whole, refused, keeps_of, stays, AllKeep, IsSpelled}
+use Rattle.gcs_http_in.specs.Message.{Message, whole, refused, stays, IsSpelled}
 use Rattle.gcs_http_in.specs.Progress.{Current}
 use Rattle.gcs_http_in.specs.Stands.{Stands, Told, IsWaiting, limits_of}
 use Rattle.gcs_http_in.proofs.StandsReads.{reads_due}
@@ -90,14 +89,14 @@ last-keeps limits number (m ∷ messages) head content keeps text x =
     ∙ ap (λ n. stays head && not (n == limits.requests)) (let e : (number + 1) + length messages ≡ number + length (m ∷ messages) = omega arith in e)
 
 under-way-some : (limits : Limits) (messages : List Message) (it : Current) (coming : Option Coming) (keeps : Bool) → keeps ≡ (stays it.head && not (1 + length messages == limits.requests))
-    → IsUnderWay limits messages (Some it) coming → IsWholeIn it.head it.content keeps coming
+    → IsUnderWay limits messages (Some it) coming → IsWholeIn limits it.head it.content keeps coming
 under-way-some limits messages it None keeps is x = x
-under-way-some limits messages it (Some coming) keeps is x = subst (λ k. IsComing it.head it.content k coming) (sym is) x
+under-way-some limits messages it (Some coming) keeps is x = subst (λ k. IsComing limits it.head it.content k coming) (sym is) x
 
 -- a message is whole
 pub gathered-end : (s t : Session) (rest bytes : List ℕ) (n : ℕ) (messages : List Message) (text drained : List ℕ) → IsSameBut s t → t.coming ≡ s.coming → limits_of t.framer ≡ limits_of s.framer
     → (x : IsReading s bytes messages text drained) → Told t.framer rest (taken.End n) bytes messages x.current
-    → (it : Current) × (keeps : Bool) × IsWholeIn it.head it.content keeps t.coming × IsEndedBy t (bytes ++ take n rest) (messages ++ whole it.head it.content keeps ∷ []) text drained
+    → (it : Current) × (keeps : Bool) × IsWholeIn (limits_of t.framer) it.head it.content keeps t.coming × IsEndedBy t (bytes ++ take n rest) (messages ++ whole it.head it.content keeps ∷ []) text drained
 gathered-end s t rest bytes n messages text drained same coming are x told =
     let it : Current = told.0 in
     let stands = told.3 in
@@ -105,7 +104,7 @@ gathered-end s t rest bytes n messages text drained same coming are x told =
     let now : IsUnderWay (limits_of t.framer) messages (Some it) s.coming = subst (λ l. IsUnderWay l messages (Some it) s.coming) (sym are) (subst (λ c. IsUnderWay (limits_of s.framer) messages c s.coming) told.1 x.under_way) in (
       it,
       told.2,
-      subst (IsWholeIn it.head it.content told.2) (sym coming) (under-way-some (limits_of t.framer) messages it s.coming told.2 keeps-is now),
+      subst (IsWholeIn (limits_of t.framer) it.head it.content told.2) (sym coming) (under-way-some (limits_of t.framer) messages it s.coming told.2 keeps-is now),
       record { stands = stands; waits = x.waits ∙ ap (λ u. drained ++ unsent_bytes u) (sym same.unsent) },
     )
 

@@ -1,11 +1,14 @@
 pub mod Tellings
+pub mod Inserted
 pub mod Steps
 pub mod Answered
 pub mod Endings
 pub mod Drops
-pub mod Cuts
 pub mod Pieces
 pub mod Texts
+pub mod HeadLemmas
+pub mod Reading
+pub mod RangeTexts
 pub mod Serving
 pub mod Alongs
 pub mod Gathering

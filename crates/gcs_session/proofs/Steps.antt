@@ -1,21 +1,33 @@
 -- Histories that grow, and runs of a script over them.
-use Rattle.std.proofs.Common.{◌≡◌, ◌≢◌, ◌⊎◌, inl, inr, ℕ, suc, ◌+◌, ◌<◌, ◌≤◌, nat_eq, not, Bool, true, false, List, [], ◌∷◌, ◌++◌, length, refl, ap, sym, subst, ◌∙◌, arith, add-zero, append-nil, append_assoc, length-append, eq-eqb, if◌then◌else◌, Result, Ok, Err}
+use Rattle.std.proofs.Common.{◌≡◌, ◌≢◌, ◌⊎◌, inl, inr, ℕ, suc, ◌+◌, ◌<◌, nat_eq, not, Bool, true, false, Option, Some, None, List, [], ◌∷◌, ◌++◌, length, refl, ap, sym, subst, ◌∙◌, arith, add-zero, append-nil, append_assoc, length-append, eq-eqb, if◌then◌else◌}
 use Rattle.std.proofs.lemmas.Bool.{eqb-true, eqb-false, ne_eqb}
+use Rattle.std.specs.Prelude.{◌==◌, sum}
 use Rattle.std.specs.List.{AllByRecursion}
+use Rattle.std.proofs.Math.Nat.{mod-lt}
 use Rattle.gcs_meaning.specs.declared.command.Answer.{Answer}
 use Rattle.gcs_meaning.specs.declared.command.Command.{Command}
+use Rattle.gcs_meaning.specs.declared.command.Command.TheVariants.{BucketGet, BucketDelete, Get}
 use Rattle.gcs_meaning.specs.declared.command.Entry.{Entry}
 use Rattle.gcs_meaning.specs.History.{AnswersAt, AreDistinct}
 use Rattle.gcs_meaning.specs.Desk.{Histories, AreLists, IsStepped, AreUnmoved, entries_of, AreNumbered, IsOf}
+use Rattle.gcs_meaning.specs.declared.reason.Reason.TheVariants.{NotBuilt}
+use Rattle.gcs_meaning.specs.Content.{Digested}
+use Rattle.gcs_meaning.specs.BucketChanges.{AreSetInLimits}
+use Rattle.gcs_meaning.specs.Moment.{shard_number}
+use Rattle.gcs_meaning.specs.Step.{IsBuilt}
+use Rattle.gcs_json.specs.declared.bucket.BucketBody.{BucketBody}
+use Rattle.gcs_route.specs.declared.call.Call.{Call}
+use Rattle.gcs_session.specs.declared.requests.Given.{Given}
+use Rattle.gcs_session.specs.declared.requests.Given.TheVariants as given
 use Rattle.gcs_session.specs.declared.requests.Request.{Request}
-use Rattle.gcs_session.specs.declared.requests.Request.TheVariants.{Refused, Upload}
-use Rattle.gcs_session.specs.declared.script.Reply.{Reply}
-use Rattle.gcs_session.specs.declared.reply.Form.{Form}
+use Rattle.gcs_session.specs.declared.requests.Request.TheVariants as request
+use Rattle.gcs_session.specs.declared.script.Reply.TheVariants as reply
 use Rattle.gcs_session.specs.declared.script.Move.{Move}
 use Rattle.gcs_session.specs.declared.script.Move.TheVariants.{Ask, Say}
-use Rattle.gcs_session.specs.Scripts.{script, Asks, Counts, SameCounts, IsOneMore, is_some_step}
+use Rattle.gcs_session.specs.Scripts.{script, bucket_change_move, first_move, insert_move, on_bucket, on_object, put_move, IsAskable, IsGivenInLimits, Asks, Counts, SameCounts, IsOneMore, is_some_step}
 use Rattle.gcs_session.specs.Replies.{memory_text}
 use Rattle.gcs_session.specs.Running.{lengths, Grows}
+use Rattle.gcs_session.proofs.Inserted.{inserted_in_limits}
 
 decide : (b : Bool) (m n : ℕ) → nat_eq m n ≡ b → (m ≡ n) ⊎ (m ≢ n)
 decide true m n e = inl (eqb-true m n e)
@@ -96,19 +108,62 @@ Asks-more q done (b ∷ ans) moment h h' caller from mid to shard command a g x 
 
 -- a script asks once
 pub asks_once : (q : Request) (ans : List Answer) (shard : ℕ) (command : Command) → script q ans ≡ Ask shard command → ans ≡ []
-asks_once (Refused reason) ans shard command e = absurd (cc)
-asks_once (Upload bucket name kind hashed) [] shard command e = refl
-asks_once (Upload bucket name kind hashed) (a ∷ ans) shard command e = absurd (cc)
+asks_once (request.Refused reason) ans shard command e = absurd (cc)
+asks_once (request.Asks call given) [] shard command e = refl
+asks_once (request.Asks call given) (a ∷ ans) shard command e = absurd (cc)
 
--- what a script asks of a shard belongs to it
-abbrev MoveIsOf : Move → Type 0
-MoveIsOf (Ask shard command) = IsOf shard command
-MoveIsOf (Say reply) = Unit {0}
+-- a shard may be asked for a command: it is one of the sixteen, the command belongs to it, and is built
+pub record MayBeAsked (shard : ℕ) (command : Command) : Type 0 where
+  pub within : shard < 16
+  pub belongs : IsOf shard command
+  pub built : IsBuilt command
 
-pub asks_belong : (q : Request) (ans : List Answer) (shard : ℕ) (command : Command) → script q ans ≡ Ask shard command → IsOf shard command
-asks_belong (Refused reason) ans shard command e = absurd (cc)
-asks_belong (Upload bucket name kind hashed) [] shard command e = subst MoveIsOf e (refl, tt)
-asks_belong (Upload bucket name kind hashed) (a ∷ ans) shard command e = absurd (cc)
+-- what a script asks of a shard it may
+abbrev MoveMayBeAsked : Move → Type 0
+MoveMayBeAsked (Ask shard command) = MayBeAsked shard command
+MoveMayBeAsked (Say reply) = Unit {0}
+
+-- a step under the first bucket of a path
+on_bucket_may : (buckets : List (List ℕ)) (command : List ℕ → Command) → ((bucket : List ℕ) → IsOf (shard_number bucket) (command bucket) × IsBuilt (command bucket))
+    → MoveMayBeAsked (on_bucket buckets command)
+on_bucket_may [] command is = tt
+on_bucket_may (bucket ∷ _) command is = record { within = mod-lt (sum bucket) (omega arith); belongs = (is bucket).0; built = (is bucket).1 }
+
+on_object_may : (call : Call) (names : List (List ℕ)) (command : List ℕ → List ℕ → Command)
+    → ((bucket name : List ℕ) → IsOf (shard_number bucket) (command bucket name) × IsBuilt (command bucket name)) → MoveMayBeAsked (on_object call names command)
+on_object_may call [] command is = tt
+on_object_may call (name ∷ _) command is = on_bucket_may call.buckets _ (λ bucket. is bucket name)
+
+put_may : (call : Call) (name kind : Option (List ℕ)) (hashed : Digested) → MoveMayBeAsked (put_move call name kind hashed)
+put_may call None kind hashed = tt
+put_may call (Some name) kind hashed = on_bucket_may call.buckets _ (λ bucket. ((refl, tt), tt))
+
+insert_may : (name : Option (List ℕ)) (body : BucketBody) → AreSetInLimits body.change → MoveMayBeAsked (insert_move name body)
+insert_may None body set = tt
+insert_may (Some bucket) body set = record { within = mod-lt (sum bucket) (omega arith); belongs = (refl, tt); built = inserted_in_limits body set }
+
+bucket_may : (call : Call) (body : BucketBody) (inserts : Bool) → AreSetInLimits body.change
+    → MoveMayBeAsked (if inserts then insert_move body.name body else bucket_change_move call body)
+bucket_may call body true set = insert_may body.name body set
+bucket_may call body false set = on_bucket_may call.buckets _ (λ bucket. ((refl, tt), set))
+
+bare_may : (call : Call) (reads deletes : Bool)
+    → MoveMayBeAsked (if reads then on_bucket call.buckets (λ bucket. BucketGet bucket call.pre)
+    else if deletes then on_bucket call.buckets (λ bucket. BucketDelete bucket call.pre) else Say (reply.Refused NotBuilt))
+bare_may call true deletes = on_bucket_may call.buckets _ (λ bucket. ((refl, tt), tt))
+bare_may call false true = on_bucket_may call.buckets _ (λ bucket. ((refl, tt), tt))
+bare_may call false false = tt
+
+first_may : (call : Call) (given : Given) → IsGivenInLimits given → MoveMayBeAsked (first_move call given)
+first_may call given.Nothing set = bare_may call (call.row == 3) (call.row == 6)
+first_may call (given.Read range) set = on_object_may call call.objects _ (λ bucket name. ((refl, tt), tt))
+first_may call (given.Whole kind hashed) set = put_may call call.name kind hashed
+first_may call (given.Bucket body) set = bucket_may call body (call.row == 1) set
+
+pub asks_may : (q : Request) (ans : List Answer) (shard : ℕ) (command : Command) → IsAskable q → script q ans ≡ Ask shard command → MayBeAsked shard command
+asks_may (request.Refused reason) ans shard command set e = absurd (cc)
+asks_may (request.Asks call given) [] shard command set e = subst MoveMayBeAsked e (first_may call given set)
+asks_may (request.Asks call given) (a ∷ ans) shard command set e = absurd (cc)
 
 entries_of-append : (caller : ℕ) (xs ys : List Entry) → entries_of caller (xs ++ ys) ≡ entries_of caller xs ++ entries_of caller ys
 entries_of-append caller [] ys = refl

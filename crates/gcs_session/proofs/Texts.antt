@@ -1,30 +1,11 @@
--- Texts that metadata can hold, and names that are text.
-use Rattle.std.proofs.Common.{◌≡◌, ℕ, ◌<◌, ◌≤◌, List, length, get_or, Bool, true, nat_lt, nat_le, nat_eq, not, ◌&&◌, ap, ◌∙◌, sym, arith, ⊎_elim, false, refl, Some, None, if◌then◌else◌}
+-- Texts that metadata can hold.
+use Rattle.std.proofs.Common.{◌≡◌, ℕ, ◌≤◌, List, length, Bool, true, nat_lt, nat_le, nat_eq, not, ◌&&◌, ap, ◌∙◌, sym, arith, false, refl, Some, None, if◌then◌else◌}
 use Rattle.std.specs.List.{list_all}
-use Rattle.std.specs.Str.{IsAscii, IsUtf8, is_utf8}
-use Rattle.std.proofs.lemmas.Str.{IsUtf8-from_ascii, IsUtf8-from_is_utf8, is_utf8-from_IsUtf8}
-use Rattle.std.proofs.lemmas.Bool.{cases_lt, lt-ltb, le-leb}
-use Rattle.std.proofs.lemmas.Bool.Decides.{nat_tests}
-use Rattle.std.proofs.lemmas.List.Elements.{All-get_or}
+use Rattle.std.specs.Str.{IsUtf8, is_utf8}
+use Rattle.std.proofs.lemmas.Str.{IsUtf8-from_is_utf8, is_utf8-from_IsUtf8}
+use Rattle.std.proofs.lemmas.Bool.{lt-ltb, le-leb}
 use Rattle.std.proofs.Math.Bool.{and-true, and-false}
-use Rattle.std.proofs.Math.ListN.{get_or-eq_default}
-use Rattle.gcs_session.specs.Calls.{is_plain_byte, is_text, text_of_field, IsPlainName}
-
--- a byte of a plain name is ASCII
-small : (b : ℕ) → is_plain_byte b ≡ true → b < 128
-small b h = grind (arith, nat_tests)
-
--- a plain name is ASCII
-ascii : (name : List ℕ) → IsPlainName name → IsAscii name
-ascii name h i =
-    ⊎_elim
-    (λ inside. small (get_or name i 0) (All-get_or (λ b. is_plain_byte b ≡ true) name i 0 inside h.bytes))
-    (λ outside. let e : get_or name i 0 ≡ 0 = get_or-eq_default name 0 outside in omega arith)
-    (cases_lt i (length name))
-
--- a plain name is text
-pub plain_text : (name : List ℕ) → IsPlainName name → IsUtf8 name
-plain_text name h = IsUtf8-from_ascii name (ascii name h)
+use Rattle.gcs_session.specs.Heads.{is_text, text_of_field}
 
 -- no byte is a control character
 abbrev pub are_shown : List ℕ → Bool

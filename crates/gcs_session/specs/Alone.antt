@@ -3,13 +3,12 @@ use Rattle.std.specs.Prelude.{◌≡◌, ◌≢◌, ◌⊎◌, ℕ, List, [], �
 use Rattle.gcs_io.specs.Told.{Gains}
 use Rattle.gcs_http_in.specs.declared.limits.Limits.{Limits}
 use Rattle.gcs_names.specs.Name.{IsBucketName}
-use Rattle.gcs_meaning.specs.declared.settings.Settings.{Settings}
 use Rattle.gcs_meaning.specs.declared.command.Command.TheVariants.{BucketInsert}
-use Rattle.gcs_meaning.specs.declared.command.Entry.{Entry}
 use Rattle.gcs_meaning.specs.Moment.{shard_number}
 use Rattle.gcs_meaning.specs.Desk.{Histories, AreLists}
 use Rattle.gcs_session.specs.declared.ends.SessionEnd.{SessionEnd}
 use Rattle.gcs_session.specs.declared.ends.SessionEnd.TheVariants.{Ended, Closed, Cut, ReadFault, WriteFault, NoMemory}
+use Rattle.gcs_session.specs.Inserts.{usual_settings}
 use Rattle.gcs_session.specs.Connection.{Outside, IsServed}
 
 -- the words are accepted: `stdio`, or `stdio` and the name of a bucket
@@ -17,20 +16,6 @@ abbrev pub IsAccepted : List (List ℕ) → Option (List ℕ) → Type 0
 IsAccepted (word ∷ []) None = word ≡ codes "stdio"
 IsAccepted (word ∷ name ∷ []) (Some bucket) = (word ≡ codes "stdio") × (bucket ≡ name) × IsBucketName name
 IsAccepted words name = ⊥
-
--- the settings of a bucket that is made with none given (Cloud Storage JSON API, "Buckets")
-abbrev pub usual_settings : Settings
-usual_settings = record {
-  location = codes "US";
-  storage_class = codes "STANDARD";
-  labels = [];
-  lifecycle = None;
-  versioned = false;
-  default_event_hold = false;
-  retention = None;
-  soft_seconds = 604800;
-  soft_since = 0;
-}
 
 abbrev pub status_of_end : SessionEnd → ℕ
 status_of_end Ended = 0

@@ -1,5 +1,5 @@
 -- A connection under way.
-use Rattle.std.specs.Prelude.{◌≡◌, ◌≤◌, ℕ, List, [], ◌++◌, length, Bool, true, false, Option, Some, None}
+use Rattle.std.specs.Prelude.{◌≡◌, ◌≤◌, ℕ, List, [], ◌++◌, length, Bool, false, Option, Some, None}
 use Rattle.gcs_http_in.specs.declared.limits.Limits.{Limits}
 use Rattle.gcs_http_in.specs.Message.{Message}
 use Rattle.gcs_http_in.specs.Usual.{IsAllowed}
@@ -22,7 +22,7 @@ pub record IsAlong (limits : Limits) (caller : ℕ) (a b : Outside) (s : Session
   pub text : List ℕ
   pub moved : Moved caller a b (fed ++ last) text moments
   pub session : IsSession s fed messages text text
-  pub served : Serves messages moments b.saw caller (lengths a.own) text (lengths b.own)
+  pub served : Serves limits messages moments b.saw caller (lengths a.own) text (lengths b.own)
 
 -- what a piece leaves: the connection goes on, with at least this many bytes taken, or has ended
 abbrev pub AlongTo : Option SessionEnd → ℕ → Limits → ℕ → Outside → Outside → Session → Type 0

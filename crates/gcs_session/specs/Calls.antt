@@ -1,59 +1,102 @@
 -- What a message asks for.
-use Rattle.std.specs.Prelude.{◌≡◌, ◌≤◌, ℕ, ◌==◌, ◌&&◌, ◌||◌, not, nat_lt, nat_le, Bool, true, All, List, ◌++◌, length, codes, Option, Some, None, if◌then◌else◌}
-use Rattle.std.specs.List.{list_all}
-use Rattle.std.specs.Str.{is_utf8}
+use Rattle.std.specs.Prelude.{◌≡◌, ◌⊎◌, ℕ, ◌==◌, ◌&&◌, ◌||◌, nat_lt, Bool, true, List, length, Option, Some, None, Result, Ok, Err, if◌then◌else◌}
+use Rattle.std.specs.Option.{is_none}
+use Rattle.gcs_http_in.specs.declared.limits.Limits.{Limits}
 use Rattle.gcs_http_in.specs.Head.{Head}
-use Rattle.gcs_http_in.specs.Fields.{first_of, values_of}
-use Rattle.gcs_names.specs.Name.{IsBucketName}
 use Rattle.gcs_meaning.specs.Content.{bytes_in}
-use Rattle.gcs_meaning.specs.declared.reason.Reason.TheVariants.{NotBuilt}
+use Rattle.gcs_meaning.specs.declared.reason.Key.TheVariants.{Body, HeadContentEncoding, Name}
+use Rattle.gcs_meaning.specs.declared.reason.Reason.{Reason}
+use Rattle.gcs_meaning.specs.declared.reason.Reason.TheVariants as reason
+use Rattle.gcs_meaning.specs.declared.reason.Reason.TheVariants.{Invalid, Required, TooLong}
+use Rattle.gcs_json.specs.declared.fault.BodyFault.{BodyFault}
+use Rattle.gcs_json.specs.declared.fault.BodyFault.TheVariants.{NotJson, NotBuilt, BadField, Missing, NoMemory}
+use Rattle.gcs_json.specs.Bucket.{bucket_of}
+use Rattle.gcs_route.specs.declared.call.Call.{Call}
+use Rattle.gcs_route.specs.declared.fault.RouteFault.TheVariants as fault
+use Rattle.gcs_route.specs.Calls.{IsFault}
+use Rattle.gcs_route.specs.Calls as route
+use Rattle.gcs_session.specs.declared.requests.Given.{Given}
+use Rattle.gcs_session.specs.declared.requests.Given.TheVariants as given
+use Rattle.gcs_session.specs.declared.requests.HeadPart.{HeadPart}
+use Rattle.gcs_session.specs.declared.requests.HeadPart.TheVariants as part
 use Rattle.gcs_session.specs.declared.requests.Request.{Request}
-use Rattle.gcs_session.specs.declared.requests.Request.TheVariants.{Refused, Upload}
+use Rattle.gcs_session.specs.declared.requests.Request.TheVariants.{Refused, Asks}
 use Rattle.gcs_session.specs.declared.requests.Wanted.{Wanted}
 use Rattle.gcs_session.specs.declared.requests.Wanted.TheVariants as wanted
+use Rattle.gcs_session.specs.Heads.{content_type_of, is_encoded, method_of, range_in}
 
--- a letter, a digit, `-` or `_`
-abbrev pub is_plain_byte : ℕ → Bool
-is_plain_byte b = (nat_le 97 b && nat_le b 122) || ((nat_le 65 b && nat_le b 90) || ((nat_le 48 b && nat_le b 57) || ((b == 45) || (b == 95))))
+-- an upload of a whole content needs a name (Cloud Storage JSON API, "Objects: insert")
+abbrev pub head_refusal : Call → Option Reason
+head_refusal call = if (call.row == 18) && is_none call.name then Some (Required Name) else None
 
--- an object's name that a target can hold as it is
-pub record IsPlainName (name : List ℕ) : Type 0 where
-  pub least : 1 ≤ length name
-  pub most : length name ≤ 1024
-  pub bytes : All (λ b. is_plain_byte b ≡ true) name
+-- the requests of the row have a JSON body
+abbrev pub brings_json : ℕ → Bool
+brings_json row = (row == 1) || ((row == 4) || (row == 5))
 
--- the target of a media upload of an object to a bucket (Cloud Storage JSON API, "Objects: insert")
-pub record IsUploadTarget (target bucket name : List ℕ) : Type 0 where
-  pub spelled : target ≡ codes "/upload/storage/v1/b/" ++ (bucket ++ (codes "/o?uploadType=media&name=" ++ name))
-  pub bucket_is : IsBucketName bucket
-  pub name_is : IsPlainName name
+-- what the head gives beside a call, by its row of the table: a read of bytes the range, an upload the content type, a JSON body
+-- whether it is encoded
+abbrev pub part_of : Call → Head → HeadPart
+part_of call head =
+    if (call.row == 10) || (call.row == 21) then part.Read (if call.media then range_in head else None)
+    else if call.row == 18 then part.Whole (content_type_of head)
+    else if brings_json call.row then part.Json (is_encoded head)
+    else part.Nothing
 
--- the head of a media upload
-pub record IsUpload (head : Head) (bucket name : List ℕ) : Type 0 where
-  pub method : head.method ≡ codes "POST"
-  pub target : IsUploadTarget head.target bucket name
-
--- a value is a text that metadata can hold: not empty, at most 1,024 bytes, no control characters
-abbrev pub is_text : List ℕ → Bool
-is_text value =
-    nat_lt 0 (length value) && (nat_le (length value) 1024 && (list_all (λ b. nat_le 32 b && not (b == 127)) value && is_utf8 value))
-
--- a value that is no such text counts as absent
-abbrev pub text_of_field : Option (List ℕ) → Option (List ℕ)
-text_of_field None = None
-text_of_field (Some value) = if is_text value then Some value else None
-
--- the content type that the head gives (RFC 9110, 8.3)
-abbrev pub content_type_of : Head → Option (List ℕ)
-content_type_of head = text_of_field (first_of (values_of (codes "content-type") head.fields))
+-- the head is that of a call
+abbrev pub IsCallOf : Head → Call → Type 0
+IsCallOf head call = route.IsCall (method_of head) head.target call
 
 -- what the head alone asks for
 abbrev pub IsWanted : Head → Wanted → Type 0
-IsWanted head (wanted.Refused reason) = (reason ≡ NotBuilt) × ((bucket name : List ℕ) → IsUpload head bucket name → ⊥)
-IsWanted head (wanted.Upload bucket name kind) = IsUpload head bucket name × (kind ≡ content_type_of head)
+IsWanted head (wanted.Refused reason) =
+    IsFault (method_of head) head.target (fault.Refused reason) ⊎ ((call : Call) × IsCallOf head call × (head_refusal call ≡ Some reason))
+IsWanted head (wanted.Asks call part) = IsCallOf head call × (head_refusal call ≡ None) × (part ≡ part_of call head)
 
--- what the whole message asks for: the upload of its body, or nothing that is built
-abbrev pub IsCall : Head → List ℕ → Request → Type 0
-IsCall head body (Refused reason) = IsWanted head (wanted.Refused reason)
-IsCall head body (Upload bucket name kind hashed) =
-    IsWanted head (wanted.Upload bucket name kind) × (bytes_in hashed ≡ body) × (hashed.with_md5 ≡ true)
+-- the refusal of a body for its fault. Want of memory is no fault of the body
+abbrev pub said_fault : BodyFault → Option Reason
+said_fault NotJson = Some (Invalid Body)
+said_fault NotBuilt = Some reason.NotBuilt
+said_fault (BadField key) = Some (Invalid key)
+said_fault (Missing key) = Some (Required key)
+said_fault NoMemory = None
+
+abbrev pub fault_in : {A : Type 0} → Result A BodyFault → Option Reason
+fault_in (Ok read) = None
+fault_in (Err fault) = said_fault fault
+
+-- the refusal of what a JSON body says, on a row of the table
+abbrev pub body_refusal : ℕ → List ℕ → Option Reason
+body_refusal row body = fault_in (bucket_of row body)
+
+-- the refusal of a JSON body that may have so many bytes: for its length, for its encoding, and then for what it says
+abbrev pub json_refusal : ℕ → Bool → ℕ → List ℕ → Option Reason
+json_refusal most encoded row body =
+    if nat_lt most (length body) then Some TooLong
+    else if encoded then Some (Invalid HeadContentEncoding)
+    else body_refusal row body
+
+-- what a JSON body says is given, on a row of the table
+abbrev pub IsSaidBy : ℕ → List ℕ → Given → Type 0
+IsSaidBy row body (given.Bucket read) = bucket_of row body ≡ Ok read
+IsSaidBy row body _ = ⊥
+
+-- what a message gives is what its head gives, with its body as the content of an upload, or as what its JSON says
+abbrev pub IsGiven : ℕ → Call → HeadPart → List ℕ → Given → Type 0
+IsGiven most call (part.Read range) body (given.Read asked) = asked ≡ range
+IsGiven most call (part.Whole kind) body (given.Whole type hashed) = (type ≡ kind) × (bytes_in hashed ≡ body) × (hashed.with_md5 ≡ true)
+IsGiven most call (part.Json encoded) body given = (json_refusal most encoded call.row body ≡ None) × IsSaidBy call.row body given
+IsGiven most call part.Nothing body given.Nothing = Unit {0}
+IsGiven most call _ body _ = ⊥
+
+-- the body of a message is refused
+abbrev pub IsBodyFault : ℕ → Call → HeadPart → List ℕ → Reason → Type 0
+IsBodyFault most call (part.Json encoded) body reason = json_refusal most encoded call.row body ≡ Some reason
+IsBodyFault most call _ body reason = ⊥
+
+-- what the whole message asks for: its head is refused, or its body, or it gives what its call needs
+abbrev pub IsCall : Limits → Head → List ℕ → Request → Type 0
+IsCall limits head body (Refused reason) =
+    IsWanted head (wanted.Refused reason)
+    ⊎ ((call : Call) × (part : HeadPart) × IsWanted head (wanted.Asks call part) × IsBodyFault limits.json call part body reason)
+IsCall limits head body (Asks call given) =
+    (part : HeadPart) × IsWanted head (wanted.Asks call part) × IsGiven limits.json call part body given

@@ -1,5 +1,5 @@
 -- A connection as a whole: what was read, written and asked, in one call.
-use Rattle.std.specs.Prelude.{◌≡◌, ◌⊎◌, ℕ, ◌<◌, List, [], ◌∷◌, ◌++◌, length, Bool, true, false, Option}
+use Rattle.std.specs.Prelude.{◌≡◌, ℕ, ◌<◌, List, [], ◌∷◌, ◌++◌, length, Bool, true, false, Option}
 use Rattle.std.specs.List.{list_all}
 use Rattle.gcs_io.specs.Told.{Gains}
 use Rattle.gcs_http_in.specs.declared.limits.Limits.{Limits}
@@ -45,7 +45,7 @@ Spelled Cut limits input messages rest = Spells limits input messages rest
 Spelled ReadFault limits input messages rest = Spells limits input messages rest
 
 -- all replies but the last were written whole, and of the last a part, which isn't all of it
-pub record IsBroken (messages : List Message) (moments : List ℕ) (histories : Histories) (caller : ℕ) (from : Counts) (text output : List ℕ) (to : Counts) : Type 0 where
+pub record IsBroken (limits : Limits) (messages : List Message) (moments : List ℕ) (histories : Histories) (caller : ℕ) (from : Counts) (text output : List ℕ) (to : Counts) : Type 0 where
   pub before : List Message
   pub last : Message
   pub messages_are : messages ≡ before ++ last ∷ []
@@ -59,17 +59,17 @@ pub record IsBroken (messages : List Message) (moments : List ℕ) (histories : 
   pub text_is : text ≡ front ++ (part ++ more)
   pub output_is : output ≡ front ++ part
   pub some : 0 < length more
-  pub first_served : Serves before early histories caller from front mid
-  pub last_answered : Answers last late histories caller mid (part ++ more) to
+  pub first_served : Serves limits before early histories caller from front mid
+  pub last_answered : Answers limits last late histories caller mid (part ++ more) to
 
 -- the replies were written whole, but for the last one after a write fault
-abbrev pub Written : SessionEnd → List Message → List ℕ → Histories → ℕ → Counts → List ℕ → List ℕ → Counts → Type 0
-Written WriteFault messages moments histories caller from text output to = IsBroken messages moments histories caller from text output to
-Written NoMemory messages moments histories caller from text output to = output ≡ text
-Written Ended messages moments histories caller from text output to = output ≡ text
-Written Closed messages moments histories caller from text output to = output ≡ text
-Written Cut messages moments histories caller from text output to = output ≡ text
-Written ReadFault messages moments histories caller from text output to = output ≡ text
+abbrev pub Written : SessionEnd → Limits → List Message → List ℕ → Histories → ℕ → Counts → List ℕ → List ℕ → Counts → Type 0
+Written WriteFault limits messages moments histories caller from text output to = IsBroken limits messages moments histories caller from text output to
+Written NoMemory limits messages moments histories caller from text output to = output ≡ text
+Written Ended limits messages moments histories caller from text output to = output ≡ text
+Written Closed limits messages moments histories caller from text output to = output ≡ text
+Written Cut limits messages moments histories caller from text output to = output ≡ text
+Written ReadFault limits messages moments histories caller from text output to = output ≡ text
 
 -- which end it is. No two of them but want of memory can come with the same messages, rest and state of the source
 abbrev pub EndsAs : SessionEnd → Bool → List Message → List ℕ → Type 0
@@ -91,6 +91,6 @@ pub record IsServed (limits : Limits) (caller : ℕ) (a b : Outside) (ended : Bo
   pub rest : List ℕ
   pub text : List ℕ
   pub spelled : Spelled end limits input messages rest
-  pub served : Serves messages moments b.saw caller (lengths a.own) text (lengths b.own)
-  pub written : Written end messages moments b.saw caller (lengths a.own) text output (lengths b.own)
+  pub served : Serves limits messages moments b.saw caller (lengths a.own) text (lengths b.own)
+  pub written : Written end limits messages moments b.saw caller (lengths a.own) text output (lengths b.own)
   pub ends : EndsAs end ended messages rest

@@ -1,5 +1,7 @@
+pub mod Ranges
+pub mod Heads
 pub mod Calls
-pub mod Targets
+pub mod Inserts
 pub mod Scripts
 pub mod Replies
 pub mod Running

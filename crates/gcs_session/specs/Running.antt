@@ -1,5 +1,5 @@
 -- What running a script leaves, and what is written at its end.
-use Rattle.std.specs.Prelude.{◌≡◌, ℕ, List, [], ◌∷◌, ◌++◌, length}
+use Rattle.std.specs.Prelude.{◌≡◌, ℕ, List, [], ◌++◌, length}
 use Rattle.gcs_meaning.specs.declared.command.Answer.{Answer}
 use Rattle.gcs_meaning.specs.declared.command.Entry.{Entry}
 use Rattle.gcs_meaning.specs.Desk.{Histories}
@@ -8,7 +8,7 @@ use Rattle.gcs_session.specs.declared.script.Move.TheVariants.{Say}
 use Rattle.gcs_session.specs.declared.answering.Ran.{Ran}
 use Rattle.gcs_session.specs.declared.answering.Ran.TheVariants.{Said, Wanting}
 use Rattle.gcs_session.specs.declared.reply.Outgoing.{Outgoing}
-use Rattle.gcs_session.specs.declared.reply.Outgoing.TheVariants.{Text, Fixed}
+use Rattle.gcs_session.specs.declared.reply.Outgoing.TheVariants.{Text, Fixed, Media}
 use Rattle.gcs_session.specs.Scripts.{script, Asks, Counts, is_some_step}
 
 -- how many entries there are, in each shard
@@ -30,3 +30,4 @@ RanTo q moment histories caller from (Wanting stepped) to =
 abbrev pub outgoing_bytes : Outgoing → List ℕ
 outgoing_bytes (Text bytes) = bytes.items
 outgoing_bytes (Fixed bytes) = bytes.now
+outgoing_bytes (Media head body) = head.items ++ body

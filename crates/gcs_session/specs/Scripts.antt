@@ -1,41 +1,45 @@
 -- The steps of a request, and how a history answers them.
-use Rattle.std.specs.Prelude.{◌≡◌, ◌≢◌, ℕ, ◌+◌, unwrap_or, Bool, true, false, List, [], ◌∷◌, ◌++◌, codes, Option, Some, None}
+use Rattle.std.specs.Prelude.{◌≡◌, ◌≢◌, ℕ, ◌+◌, ◌==◌, unwrap_or, Bool, true, false, List, [], ◌∷◌, ◌++◌, Option, Some, None, if◌then◌else◌}
 use Rattle.gcs_meaning.specs.declared.reason.Reason.TheVariants.{NotBuilt}
-use Rattle.gcs_meaning.specs.declared.settings.Pre.{Pre}
 use Rattle.gcs_meaning.specs.declared.settings.Meta.{Meta}
+use Rattle.gcs_meaning.specs.declared.settings.Settings.{Settings}
 use Rattle.gcs_meaning.specs.declared.version.Expect.{Expect}
+use Rattle.gcs_meaning.specs.declared.version.Row.{Row}
 use Rattle.gcs_meaning.specs.declared.command.Answer.{Answer}
 use Rattle.gcs_meaning.specs.declared.command.Answer.TheVariants as answer
 use Rattle.gcs_meaning.specs.declared.command.Command.{Command}
-use Rattle.gcs_meaning.specs.declared.command.Command.TheVariants.{Put}
+use Rattle.gcs_meaning.specs.declared.command.Command.TheVariants.{BucketInsert, BucketGet, BucketChange, BucketDelete, Get, Put}
+use Rattle.gcs_meaning.specs.BucketChanges.{AreSetInLimits}
+use Rattle.gcs_meaning.specs.Content.{Digested}
 use Rattle.gcs_meaning.specs.Moment.{shard_number}
 use Rattle.gcs_meaning.specs.Desk.{Histories}
 use Rattle.gcs_meaning.specs.History.{AnswersAt}
+use Rattle.gcs_meaning.specs.ObjectChanges.{default_content_type}
+use Rattle.gcs_json.specs.declared.bucket.BucketBody.{BucketBody}
+use Rattle.gcs_route.specs.declared.call.Call.{Call}
+use Rattle.gcs_session.specs.declared.ranges.Range.{Range}
+use Rattle.gcs_session.specs.declared.requests.Given.{Given}
+use Rattle.gcs_session.specs.declared.requests.Given.TheVariants as given
 use Rattle.gcs_session.specs.declared.requests.Request.{Request}
 use Rattle.gcs_session.specs.declared.requests.Request.TheVariants as request
 use Rattle.gcs_session.specs.declared.script.Move.{Move}
 use Rattle.gcs_session.specs.declared.script.Move.TheVariants.{Ask, Say}
 use Rattle.gcs_session.specs.declared.script.Reply.{Reply}
 use Rattle.gcs_session.specs.declared.script.Reply.TheVariants as reply
+use Rattle.gcs_session.specs.Ranges.{range_reply}
+use Rattle.gcs_session.specs.Inserts.{inserted_settings}
 
--- no preconditions, and no expected digests
-abbrev pub no_pre : Pre
-no_pre = record { generation_is = None; generation_not = None; metageneration_is = None; metageneration_not = None }
-
+-- no expected digests
 abbrev pub no_expect : Expect
 no_expect = record { crc = None; md5 = None }
 
--- the content type where none is given (Cloud Storage JSON API, "Objects")
-abbrev pub usual_type : List ℕ
-usual_type = codes "application/octet-stream"
-
--- metadata with a content type and nothing else
-abbrev pub plain_meta : Option (List ℕ) → Meta
-plain_meta kind = record {
-  content_type = unwrap_or kind usual_type;
+-- metadata with a content type and a content encoding, and nothing else
+abbrev pub upload_meta : Option (List ℕ) → Option (List ℕ) → Meta
+upload_meta kind encoding = record {
+  content_type = unwrap_or kind default_content_type;
   cache_control = None;
   content_disposition = None;
-  content_encoding = None;
+  content_encoding = encoding;
   content_language = None;
   storage_class = None;
   custom_time = None;
@@ -44,18 +48,86 @@ plain_meta kind = record {
   custom = [];
 }
 
--- what the answer to an upload says. Such a command gets no answer of another kind
-abbrev pub reply_of : Answer → Reply
-reply_of (answer.Object row settings) = reply.Object row settings
-reply_of (answer.Refused reason) = reply.Refused reason
-reply_of _ = reply.Refused NotBuilt
+-- a step under the first bucket of the path
+abbrev pub on_bucket : List (List ℕ) → (List ℕ → Command) → Move
+on_bucket [] command = Say (reply.Refused NotBuilt)
+on_bucket (bucket ∷ _) command = Ask (shard_number bucket) (command bucket)
+
+-- a step on the first object of the path, in the first bucket
+abbrev pub on_object : Call → List (List ℕ) → (List ℕ → List ℕ → Command) → Move
+on_object call [] command = Say (reply.Refused NotBuilt)
+on_object call (name ∷ _) command = on_bucket call.buckets (λ bucket. command bucket name)
+
+-- the read of a version
+abbrev pub get_move : Call → Move
+get_move call = on_object call call.objects (λ bucket name. Get bucket name call.generation call.soft call.pre)
+
+-- the upload of a whole content, by the name of the query
+abbrev pub put_move : Call → Option (List ℕ) → Option (List ℕ) → Digested → Move
+put_move call None kind hashed = Say (reply.Refused NotBuilt)
+put_move call (Some name) kind hashed =
+    on_bucket call.buckets (λ bucket. Put bucket name call.pre (upload_meta kind call.encoding) hashed None no_expect)
+
+-- the insert of the bucket that the body names
+abbrev pub insert_move : Option (List ℕ) → BucketBody → Move
+insert_move None body = Say (reply.Refused NotBuilt)
+insert_move (Some bucket) body = Ask (shard_number bucket) (BucketInsert bucket (inserted_settings body))
+
+-- the change of the bucket of the path: a PUT sets all its settings
+abbrev pub bucket_change_move : Call → BucketBody → Move
+bucket_change_move call body = on_bucket call.buckets (λ bucket. BucketChange bucket call.pre body.change (call.row == 5))
+
+-- the command of a call with a bucket's body, by its row of the table
+abbrev pub bucket_move : Call → BucketBody → Move
+bucket_move call body = if call.row == 1 then insert_move body.name body else bucket_change_move call body
+
+-- the command of a call that gives nothing beside it: by its row of the table, the read of a bucket or its delete
+abbrev pub bare_move : Call → Move
+bare_move call =
+    if call.row == 3 then on_bucket call.buckets (λ bucket. BucketGet bucket call.pre)
+    else if call.row == 6 then on_bucket call.buckets (λ bucket. BucketDelete bucket call.pre)
+    else Say (reply.Refused NotBuilt)
+
+-- the one command of a call
+abbrev pub first_move : Call → Given → Move
+first_move call given.Nothing = bare_move call
+first_move call (given.Read range) = get_move call
+first_move call (given.Whole kind hashed) = put_move call call.name kind hashed
+first_move call (given.Bucket body) = bucket_move call body
+
+-- the numbers that are given are in their limits
+abbrev pub IsGivenInLimits : Given → Type 0
+IsGivenInLimits given.Nothing = Unit {0}
+IsGivenInLimits (given.Read range) = Unit {0}
+IsGivenInLimits (given.Whole kind hashed) = Unit {0}
+IsGivenInLimits (given.Bucket body) = AreSetInLimits body.change
+
+-- a desk can be asked what the request asks
+abbrev pub IsAskable : Request → Type 0
+IsAskable (request.Refused reason) = Unit {0}
+IsAskable (request.Asks call given) = IsGivenInLimits given
+
+abbrev pub range_given : Given → Option Range
+range_given (given.Read range) = range
+range_given _ = None
+
+-- a version that is answered: its bytes where they are asked for, else its resource
+abbrev pub object_reply : Call → Given → Row → Settings → Reply
+object_reply call given row settings = if call.media then range_reply (range_given given) row else reply.Object row settings
+
+-- what a call says of the answer to its command. Such a command gets no answer of another kind
+abbrev pub reply_of : Call → Given → Answer → Reply
+reply_of call given (answer.Object row settings) = object_reply call given row settings
+reply_of call given (answer.Bucket row) = reply.Bucket row
+reply_of call given answer.Empty = reply.NoContent
+reply_of call given (answer.Refused reason) = reply.Refused reason
+reply_of call given _ = reply.Refused NotBuilt
 
 -- the next move of a request after these answers
 abbrev pub script : Request → List Answer → Move
 script (request.Refused reason) answers = Say (reply.Refused reason)
-script (request.Upload bucket name kind hashed) [] =
-    Ask (shard_number bucket) (Put bucket name no_pre (plain_meta kind) hashed None no_expect)
-script (request.Upload bucket name kind hashed) (a ∷ answers) = Say (reply_of a)
+script (request.Asks call given) [] = first_move call given
+script (request.Asks call given) (a ∷ answers) = Say (reply_of call given a)
 
 -- a step was made
 abbrev pub is_some_step : List Answer → Bool

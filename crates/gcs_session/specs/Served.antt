@@ -1,5 +1,6 @@
 -- The replies to messages, against histories.
 use Rattle.std.specs.Prelude.{◌≡◌, ◌⊎◌, ℕ, List, [], ◌∷◌, ◌++◌, Bool, true, false}
+use Rattle.gcs_http_in.specs.declared.limits.Limits.{Limits}
 use Rattle.gcs_http_in.specs.Head.{Head}
 use Rattle.gcs_http_in.specs.Message.{Message, whole, refused}
 use Rattle.gcs_meaning.specs.declared.command.Answer.{Answer}
@@ -13,9 +14,9 @@ use Rattle.gcs_session.specs.Scripts.{Asks, Counts, SameCounts, is_some_step, sc
 use Rattle.gcs_session.specs.Replies.{fault_text, form_of, memory_text, reply_text}
 
 -- the whole script ran, and the text is what it says
-pub record IsSaid (head : Head) (body : List ℕ) (keeps : Bool) (moment : ℕ) (histories : Histories) (caller : ℕ) (from : Counts) (text : List ℕ) (to : Counts) : Type 0 where
+pub record IsSaid (limits : Limits) (head : Head) (body : List ℕ) (keeps : Bool) (moment : ℕ) (histories : Histories) (caller : ℕ) (from : Counts) (text : List ℕ) (to : Counts) : Type 0 where
   pub request : Request
-  pub call : IsCall head body request
+  pub call : IsCall limits head body request
   pub answers : List Answer
   pub asked : Asks request [] answers moment histories caller from to
   pub reply : Reply
@@ -28,33 +29,33 @@ pub record IsWanting (head : Head) (keeps : Bool) (from : Counts) (text : List �
   pub text_is : text ≡ memory_text (form_of head keeps) false
 
 -- memory ran out after at least one step
-pub record IsWantingDone (head : Head) (body : List ℕ) (keeps : Bool) (moment : ℕ) (histories : Histories) (caller : ℕ) (from : Counts) (text : List ℕ) (to : Counts) : Type 0 where
+pub record IsWantingDone (limits : Limits) (head : Head) (body : List ℕ) (keeps : Bool) (moment : ℕ) (histories : Histories) (caller : ℕ) (from : Counts) (text : List ℕ) (to : Counts) : Type 0 where
   pub request : Request
-  pub call : IsCall head body request
+  pub call : IsCall limits head body request
   pub first : Answer
   pub further : List Answer
   pub asked : Asks request [] (first ∷ further) moment histories caller from to
   pub text_is : text ≡ memory_text (form_of head keeps) true
 
 -- the reply to a request at one reading of the clock
-abbrev pub Replies : Head → List ℕ → Bool → ℕ → Histories → ℕ → Counts → List ℕ → Counts → Type 0
-Replies head body keeps moment histories caller from text to =
-    IsSaid head body keeps moment histories caller from text to
-    ⊎ (IsWanting head keeps from text to ⊎ IsWantingDone head body keeps moment histories caller from text to)
+abbrev pub Replies : Limits → Head → List ℕ → Bool → ℕ → Histories → ℕ → Counts → List ℕ → Counts → Type 0
+Replies limits head body keeps moment histories caller from text to =
+    IsSaid limits head body keeps moment histories caller from text to
+    ⊎ (IsWanting head keeps from text to ⊎ IsWantingDone limits head body keeps moment histories caller from text to)
 
 -- the reply to one message, with the readings that it takes: one, or none where the message is refused by its framing
-abbrev pub Answers : Message → List ℕ → Histories → ℕ → Counts → List ℕ → Counts → Type 0
-Answers (whole head body keeps) readings histories caller from text to =
-    (moment : ℕ) × (readings ≡ moment ∷ []) × Replies head body keeps moment histories caller from text to
-Answers (refused fault) readings histories caller from text to = (readings ≡ []) × (text ≡ fault_text fault) × SameCounts from to
+abbrev pub Answers : Limits → Message → List ℕ → Histories → ℕ → Counts → List ℕ → Counts → Type 0
+Answers limits (whole head body keeps) readings histories caller from text to =
+    (moment : ℕ) × (readings ≡ moment ∷ []) × Replies limits head body keeps moment histories caller from text to
+Answers limits (refused fault) readings histories caller from text to = (readings ≡ []) × (text ≡ fault_text fault) × SameCounts from to
 
 -- the text is the replies to the messages, in order, at the caller's entries in the histories from these numbers to those
-abbrev pub Serves : List Message → List ℕ → Histories → ℕ → Counts → List ℕ → Counts → Type 0
-Serves [] readings histories caller from text to = (readings ≡ []) × (text ≡ []) × SameCounts from to
-Serves (m ∷ messages) readings histories caller from text to =
+abbrev pub Serves : Limits → List Message → List ℕ → Histories → ℕ → Counts → List ℕ → Counts → Type 0
+Serves limits [] readings histories caller from text to = (readings ≡ []) × (text ≡ []) × SameCounts from to
+Serves limits (m ∷ messages) readings histories caller from text to =
     (now : List ℕ) × (later : List ℕ) × (first : List ℕ) × (others : List ℕ) × (mid : Counts)
     × (readings ≡ now ++ later) × (text ≡ first ++ others)
-    × Answers m now histories caller from first mid × Serves messages later histories caller mid others to
+    × Answers limits m now histories caller from first mid × Serves limits messages later histories caller mid others to
 
 -- the script of a request ran, and the text is what it says or, where memory ran out, the constant one
 pub record IsAnswered (form : Form) (request : Request) (moment : ℕ) (histories : Histories) (caller : ℕ) (from : Counts) (text : List ℕ) (to : Counts) : Type 0 where

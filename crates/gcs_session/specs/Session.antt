@@ -33,7 +33,7 @@ IsUnderWay limits messages None None = Unit {0}
 IsUnderWay limits messages None (Some coming) = ⊥
 IsUnderWay limits messages (Some it) None = ⊥
 IsUnderWay limits messages (Some it) (Some coming) =
-    IsComing it.head it.content (stays it.head && not (1 + length messages == limits.requests)) coming
+    IsComing limits it.head it.content (stays it.head && not (1 + length messages == limits.requests)) coming
 
 -- the connection is closed by the last message, or all of them keep it
 abbrev pub IsClosedBy : Bool → List Message → Type 0
@@ -86,7 +86,7 @@ pub record IsFed (caller : ℕ) (a b : Seen) (s : Session) (piece : List ℕ) (f
   pub grows : Grows a.saw b.saw
   pub sound : AreLists caller a.saw a.own → AreLists caller b.saw b.own
   pub quiet : told ≡ [] → AreUnmoved a.saw a.own b.saw b.own
-  pub served : Serves told moments b.saw caller (lengths a.own) reply (lengths b.own)
+  pub served : Serves (limits_in s) told moments b.saw caller (lengths a.own) reply (lengths b.own)
   pub session : IsSession s (bytes ++ take fed.taken piece) (messages ++ told) (text ++ reply) drained
 
 -- the bytes end with the last of these messages
@@ -95,9 +95,9 @@ pub record IsEndedBy (s : Session) (bytes : List ℕ) (messages : List Message) 
   pub waits : text ≡ drained ++ unsent_bytes s.unsent
 
 -- the message that is whole is the one that the session gathers
-abbrev pub IsWholeIn : Head → List ℕ → Bool → Option Coming → Type 0
-IsWholeIn head content keeps None = ⊥
-IsWholeIn head content keeps (Some coming) = IsComing head content keeps coming
+abbrev pub IsWholeIn : Limits → Head → List ℕ → Bool → Option Coming → Type 0
+IsWholeIn limits head content keeps None = ⊥
+IsWholeIn limits head content keeps (Some coming) = IsComing limits head content keeps coming
 
 -- a message was answered: its reply waits, whole
 pub record IsReplied (caller : ℕ) (a b : Seen) (s : Session) (m : Message) : Type 0 where
@@ -105,7 +105,7 @@ pub record IsReplied (caller : ℕ) (a b : Seen) (s : Session) (m : Message) : T
   pub clocked : Gains a.given b.given moments
   pub grows : Grows a.saw b.saw
   pub sound : AreLists caller a.saw a.own → AreLists caller b.saw b.own
-  pub answers : Answers m moments b.saw caller (lengths a.own) (unsent_bytes s.unsent) (lengths b.own)
+  pub answers : Answers (limits_in s) m moments b.saw caller (lengths a.own) (unsent_bytes s.unsent) (lengths b.own)
   pub coming : s.coming ≡ None
   pub closed : s.closed ≡ not (keeps_of m)
 
@@ -119,5 +119,5 @@ pub record IsDrained (old new : Session) : Type 0 where
 abbrev pub IsGatheredTo : Event → Session → List ℕ → List Message → List ℕ → List ℕ → Type 0
 IsGatheredTo event.More s bytes messages text drained = IsSession s bytes messages text drained
 IsGatheredTo event.End s bytes messages text drained =
-    (it : Current) × (keeps : Bool) × IsWholeIn it.head it.content keeps s.coming × IsEndedBy s bytes (messages ++ whole it.head it.content keeps ∷ []) text drained
+    (it : Current) × (keeps : Bool) × IsWholeIn (limits_in s) it.head it.content keeps s.coming × IsEndedBy s bytes (messages ++ whole it.head it.content keeps ∷ []) text drained
 IsGatheredTo (event.Fault fault) s bytes messages text drained = IsEndedBy s bytes (messages ++ refused fault ∷ []) text drained

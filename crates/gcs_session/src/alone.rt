@@ -5,16 +5,17 @@ ghost use Rattle.gcs_io.specs.Causes.{Rose};
 ghost use Rattle.gcs_io.specs.Told.{Gains};
 ghost use Rattle.gcs_bucket.specs.Desk.{history_at};
 ghost use Rattle.gcs_http_in.specs.Usual.{usual};
-ghost use Rattle.gcs_session.specs.Alone.{status_of_end, usual_settings, IsAccepted, IsAlone, IsOpened, IsRefused};
+ghost use Rattle.gcs_session.specs.Alone.{status_of_end, IsAccepted, IsAlone, IsOpened, IsRefused};
 
 use crate::connection::serve_connection;
 use crate::ends::SessionEnd;
+use crate::inserts::usual_settings;
 use crate::writing::write_all;
 use gcs_bucket::PlainDesk;
 use gcs_chunks::Chunks;
 use gcs_http_in::Limits;
 use gcs_io::{Clock, Sink, Source};
-use gcs_meaning::{BucketName, Command, Copied, Desk, Pairs, Settings, Text, shard_of};
+use gcs_meaning::{BucketName, Command, Desk, Text, shard_of};
 use gcs_names::{BadName, bucket_name};
 use std::alloc::{AllocError, Global};
 
@@ -156,20 +157,4 @@ fn open_bucket<C: Clock>(
             Err(AllocError)
         }
     }
-}
-
-fn usual_settings(alloc: Global) -> Result<Settings, AllocError>
-    ensures { IfOk result (λ settings. settings ≡ usual_settings) }
-{
-    Ok(Settings {
-        location: Text::from_str(alloc, "US")?,
-        storage_class: Text::from_str(alloc, "STANDARD")?,
-        labels: Pairs::new(alloc),
-        lifecycle: None,
-        versioned: false,
-        default_event_hold: false,
-        retention: None,
-        soft_seconds: 604_800,
-        soft_since: 0,
-    })
 }

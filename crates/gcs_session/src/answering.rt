@@ -1,9 +1,11 @@
 //! The reply to a request: its script against the desk, and the text of what it says.
 ghost use Rattle.std.specs.Prelude.{◌≡◌, ℕ, Bool, List, ◌∷◌, []};
 ghost use Rattle.gcs_io.specs.Told.{Gains};
+ghost use Rattle.gcs_http_in.specs.declared.limits.Limits.{Limits};
 ghost use Rattle.gcs_http_in.specs.Head.{Head};
 ghost use Rattle.gcs_meaning.specs.Desk.{AreLists};
 ghost use Rattle.gcs_session.specs.Coming.{IsComing};
+ghost use Rattle.gcs_session.specs.Scripts.{IsAskable};
 ghost use Rattle.gcs_session.specs.Served.{IsAnswered, Replies};
 ghost use Rattle.gcs_session.specs.Running.{lengths, Grows, RanTo, outgoing_bytes};
 
@@ -27,6 +29,7 @@ pub enum Ran {
 
 /// Asks the desk as the request's script goes, up to what it says.
 pub fn run_script<D: Desk>(alloc: Global, desk: &mut D, request: &Request, moment: u64) -> Ran
+    requires { IsAskable request.now }
     ensures caller { D.caller desk.new ≡ D.caller desk.old }
     ensures grows { Grows (D.seen desk.old) (D.seen desk.new) }
     ensures sound { AreLists (D.caller desk.old) (D.seen desk.old) (D.mine desk.old) → AreLists (D.caller desk.old) (D.seen desk.new) (D.mine desk.new) }
@@ -63,13 +66,13 @@ pub fn respond<C: Clock, D: Desk>(
     clock: &mut C,
     coming: Coming,
 ) -> Outgoing
-    requires { (head : Head) × (content : List ℕ) × (keeps : Bool) × IsComing head content keeps coming }
+    requires { (limits : Limits) × (head : Head) × (body : List ℕ) × (keeps : Bool) × IsComing limits head body keeps coming }
     ensures caller { D.caller desk.new ≡ D.caller desk.old }
     ensures grows { Grows (D.seen desk.old) (D.seen desk.new) }
     ensures sound { AreLists (D.caller desk.old) (D.seen desk.old) (D.mine desk.old) → AreLists (D.caller desk.old) (D.seen desk.new) (D.mine desk.new) }
     ensures reply { (moment : ℕ) × Gains (C.given clock.old) (C.given clock.new) (moment ∷ [])
-        × ((head : Head) (body : List ℕ) (keeps : Bool) → IsComing head body keeps coming
-        → Replies head body keeps moment (D.seen desk.new) (D.caller desk.old) (lengths (D.mine desk.old)) (outgoing_bytes result) (lengths (D.mine desk.new))) }
+        × ((limits : Limits) (head : Head) (body : List ℕ) (keeps : Bool) → IsComing limits head body keeps coming
+        → Replies limits head body keeps moment (D.seen desk.new) (D.caller desk.old) (lengths (D.mine desk.old)) (outgoing_bytes result) (lengths (D.mine desk.new))) }
 {
     let moment = clock.now();
     let Coming { wanted, body, form } = coming;
@@ -77,11 +80,9 @@ pub fn respond<C: Clock, D: Desk>(
         drop(body);
         return memory_reply(form, false);
     };
-    let Some(hashed) = body.finish(desk) else {
-        drop(wanted);
+    let Ok(request) = request_of(alloc, desk, wanted, body) else {
         return memory_reply(form, false);
     };
-    let request = request_of(wanted, hashed);
     let outgoing = answer(alloc, desk, &request, moment, form);
     drop(request);
     outgoing
@@ -95,6 +96,7 @@ fn answer<D: Desk>(
     moment: u64,
     form: Form,
 ) -> Outgoing
+    requires { IsAskable request.now }
     ensures caller { D.caller desk.new ≡ D.caller desk.old }
     ensures grows { Grows (D.seen desk.old) (D.seen desk.new) }
     ensures sound { AreLists (D.caller desk.old) (D.seen desk.old) (D.mine desk.old) → AreLists (D.caller desk.old) (D.seen desk.new) (D.mine desk.new) }
@@ -103,10 +105,10 @@ fn answer<D: Desk>(
     match run_script(alloc, desk, request, moment) {
         Ran::Wanting { stepped } => memory_reply(form, stepped),
         Ran::Said { reply, stepped } => {
-            let text = write_reply(alloc, form, request, &reply);
+            let outgoing = write_reply(alloc, form, request, &reply);
             drop(reply);
-            match text {
-                Ok(text) => Outgoing::Text(text),
+            match outgoing {
+                Ok(outgoing) => outgoing,
                 Err(_) => memory_reply(form, stepped),
             }
         }

@@ -1,10 +1,11 @@
-//! The content of a message while it comes.
-ghost use Rattle.std.specs.Prelude.{◌≡◌, ◌≤◌, ◌<◌, ◌+◌, ◌++◌, ℕ, List, [], length, true, IfSome, OnOk};
+//! The body of a message while it comes.
+ghost use Rattle.std.specs.Prelude.{◌≡◌, ◌≤◌, ◌<◌, ◌+◌, ◌++◌, ℕ, List, [], length, true, IfOk, OnOk, Err};
 ghost use Rattle.gcs_chunks.specs.Content.{bytes_of};
 ghost use Rattle.gcs_meaning.specs.Content.{bytes_in};
 ghost use Rattle.gcs_meaning.specs.Desk.{AreUnmoved};
-ghost use Rattle.gcs_session.specs.Bodies.{IsGathered};
+ghost use Rattle.gcs_session.specs.Bodies.{is_content, is_text, IsGathered, IsHeld};
 
+use crate::bounded::{Bounded, TextFault};
 use crate::filling::Filling;
 use gcs_chunks::Content;
 use gcs_crc::Digests;
@@ -14,83 +15,157 @@ use std::alloc::{AllocError, Global};
 /// The limit on bodies keeps every content far below so many bytes.
 const ROOM: u64 = 1 << 62;
 
-/// What has come of a content: pieces that are published, their digests, and the bytes that will be the next piece.
-/// Once memory lacked, the rest is passed over.
+/// What becomes of the bytes of a body.
 #[derive(Drop)]
-pub struct Body {
+pub enum Body {
+    /// They are passed over: the message asks for no body.
+    PassedOver,
+    /// They are kept as a content. `None`: memory lacked for it. What was kept is given up, and the rest is passed over.
+    Content(Option<Kept>),
+    /// They are gathered as a text. `Err`: it is too long, or memory lacked for it, and the rest is passed over.
+    Text(Result<Bounded, TextFault>),
+}
+
+/// What has come of a content: pieces that are published, their digests, and the bytes that will be the next piece.
+#[derive(Drop)]
+pub struct Kept {
     content: Content,
     digests: Digests,
     filling: Filling,
-    lost: bool,
 }
 
 impl Body {
-    /// No bytes have come.
-    pub fn new(alloc: Global) -> Body
-        ensures { IsGathered result [] }
+    /// Takes more bytes.
+    pub fn take<D: Desk>(&mut self, desk: &mut D, part: &[u8])
+        ensures gathered { (most : ℕ) (bytes : List ℕ) → IsGathered most self.old bytes → IsGathered most self.new (bytes ++ part.now) }
+        ensures content { is_content self.new ≡ is_content self.old }
+        ensures text { is_text self.new ≡ is_text self.old }
+        ensures caller { D.caller desk.new ≡ D.caller desk.old }
+        ensures lists { AreUnmoved (D.seen desk.old) (D.mine desk.old) (D.seen desk.new) (D.mine desk.new) }
     {
-        Body {
-            content: Content::empty(alloc),
-            digests: Digests::new(),
-            filling: Filling::new(alloc),
-            lost: false,
+        match self {
+            Body::PassedOver => {}
+            Body::Content(content) => keep_more(desk, content, part),
+            Body::Text(text) => read_more(text, part),
         }
     }
 
-    /// Keeps more bytes.
-    pub fn keep<D: Desk>(&mut self, desk: &mut D, part: &[u8])
-        ensures kept { (bytes : List ℕ) → IsGathered self.old bytes → IsGathered self.new (bytes ++ part.now) }
+    /// The content with its digests. `Err`: memory lacked for it.
+    pub fn finish<D: Desk>(self, desk: &mut D) -> Result<Hashed, AllocError>
+        requires content { is_content self ≡ true }
+        requires gathered { (most : ℕ) × (bytes : List ℕ) × IsGathered most self bytes }
+        ensures bytes { IfOk result (λ hashed. (most : ℕ) (bytes : List ℕ) → IsGathered most self bytes → bytes_in hashed ≡ bytes) }
+        ensures md5 { IfOk result (λ hashed. hashed.with_md5 ≡ true) }
+        ensures caller { D.caller desk.new ≡ D.caller desk.old }
+        ensures lists { AreUnmoved (D.seen desk.old) (D.mine desk.old) (D.seen desk.new) (D.mine desk.new) }
+    {
+        match self {
+            Body::Content(Some(kept)) => kept.finish(desk),
+            Body::Content(None) => Err(AllocError),
+            Body::PassedOver | Body::Text(_) => unreachable!(),
+        }
+    }
+
+    /// The bytes of the text.
+    pub fn into_text(self) -> Result<Vec<u8>, TextFault>
+        requires { is_text self ≡ true }
+        ensures bytes { IfOk result (λ text. (most : ℕ) (bytes : List ℕ) → IsGathered most self bytes → text.items ≡ bytes) }
+        ensures within { OnOk result ((most : ℕ) (bytes : List ℕ) → IsGathered most self bytes → length bytes ≤ most) }
+        ensures too_long { result ≡ Err TextFault.TooLong → (most : ℕ) (bytes : List ℕ) → IsGathered most self bytes → most < length bytes }
+    {
+        match self {
+            Body::Text(Ok(text)) => Ok(text.into_bytes()),
+            Body::Text(Err(fault)) => Err(fault),
+            Body::PassedOver | Body::Content(_) => unreachable!(),
+        }
+    }
+}
+
+// Keeps more bytes of a content, if memory did not lack yet.
+fn keep_more<D: Desk>(desk: &mut D, content: &mut Option<Kept>, part: &[u8])
+    ensures gathered { (most : ℕ) (bytes : List ℕ) → IsGathered most (Body.Content content.old) bytes → IsGathered most (Body.Content content.new) (bytes ++ part.now) }
+    ensures caller { D.caller desk.new ≡ D.caller desk.old }
+    ensures lists { AreUnmoved (D.seen desk.old) (D.mine desk.old) (D.seen desk.new) (D.mine desk.new) }
+{
+    let Some(kept) = content else {
+        return;
+    };
+    if kept.keep(desk, part).is_err() {
+        *content = None;
+    }
+}
+
+// Gathers more bytes of a text, if it is still there.
+fn read_more(text: &mut Result<Bounded, TextFault>, part: &[u8])
+    ensures { (most : ℕ) (bytes : List ℕ) → IsGathered most (Body.Text text.old) bytes → IsGathered most (Body.Text text.new) (bytes ++ part.now) }
+{
+    let Ok(bounded) = text else {
+        return;
+    };
+    if let Err(fault) = bounded.add(part) {
+        *text = Err(fault);
+    }
+}
+
+impl Kept {
+    /// No bytes have come.
+    pub fn new(alloc: Global) -> Kept
+        ensures { IsHeld result [] }
+    {
+        Kept {
+            content: Content::empty(alloc),
+            digests: Digests::new(),
+            filling: Filling::new(alloc),
+        }
+    }
+
+    // Keeps more bytes. `Err`: no memory for them.
+    fn keep<D: Desk>(&mut self, desk: &mut D, part: &[u8]) -> Result<(), AllocError>
+        ensures kept { OnOk result ((bytes : List ℕ) → IsHeld self.old bytes → IsHeld self.new (bytes ++ part.now)) }
         ensures caller { D.caller desk.new ≡ D.caller desk.old }
         ensures lists { AreUnmoved (D.seen desk.old) (D.mine desk.old) (D.seen desk.new) (D.mine desk.new) }
     {
         let mut rest = part;
         while !rest.is_empty() {
             let (next, later) = rest.split_at(rest.len().min(self.filling.room()));
-            self.fill(desk, next);
+            self.fill(desk, next)?;
             rest = later;
         }
+        Ok(())
     }
 
-    // Keeps more bytes, no more than the next piece has room for.
-    fn fill<D: Desk>(&mut self, desk: &mut D, part: &[u8])
+    // Keeps more bytes, no more than the next piece has room for. `Err`: no memory for them.
+    fn fill<D: Desk>(&mut self, desk: &mut D, part: &[u8]) -> Result<(), AllocError>
         requires { length self.old.filling.bytes.items + length part.now ≤ 1048576 }
-        ensures kept { (bytes : List ℕ) → IsGathered self.old bytes → IsGathered self.new (bytes ++ part.now) }
+        ensures kept { OnOk result ((bytes : List ℕ) → IsHeld self.old bytes → IsHeld self.new (bytes ++ part.now)) }
         ensures caller { D.caller desk.new ≡ D.caller desk.old }
         ensures lists { AreUnmoved (D.seen desk.old) (D.mine desk.old) (D.seen desk.new) (D.mine desk.new) }
     {
-        if self.lost {
-            return;
-        }
         self.digests.update(part);
-        match self.filling.add(part) {
-            Ok(None) => {}
-            Ok(Some(piece)) => self.lost = publish(desk, &mut self.content, piece).is_err(),
-            Err(_) => self.lost = true,
+        match self.filling.add(part)? {
+            None => Ok(()),
+            Some(piece) => publish(desk, &mut self.content, piece),
         }
     }
 
-    /// The content with its digests, where memory held all of it.
-    pub fn finish<D: Desk>(self, desk: &mut D) -> Option<Hashed>
-        requires { (bytes : List ℕ) × IsGathered self bytes }
-        ensures bytes { IfSome result (λ hashed. (bytes : List ℕ) → IsGathered self bytes → bytes_in hashed ≡ bytes) }
-        ensures md5 { IfSome result (λ hashed. hashed.with_md5 ≡ true) }
+    // The content with its digests. `Err`: no memory for its last piece.
+    fn finish<D: Desk>(self, desk: &mut D) -> Result<Hashed, AllocError>
+        requires { (bytes : List ℕ) × IsHeld self bytes }
+        ensures bytes { IfOk result (λ hashed. (bytes : List ℕ) → IsHeld self bytes → bytes_in hashed ≡ bytes) }
+        ensures md5 { IfOk result (λ hashed. hashed.with_md5 ≡ true) }
         ensures caller { D.caller desk.new ≡ D.caller desk.old }
         ensures lists { AreUnmoved (D.seen desk.old) (D.mine desk.old) (D.seen desk.new) (D.mine desk.new) }
     {
-        let Body {
+        let Kept {
             mut content,
             digests,
             mut filling,
-            lost,
         } = self;
-        if lost {
-            return None;
-        }
         let last = filling.take();
         if !last.is_empty() {
-            publish(desk, &mut content, last).ok()?;
+            publish(desk, &mut content, last)?;
         }
-        Some(Hashed::with(content, digests))
+        Ok(Hashed::with(content, digests))
     }
 }
 

@@ -4,22 +4,39 @@
 mod alone;
 mod answering;
 mod body;
+mod bounded;
 mod coming;
 mod connection;
 mod ends;
+mod excerpt;
 mod filling;
+mod heads;
+mod inserts;
+mod json;
+mod json_bodies;
+mod media;
+mod ranges;
 mod reply;
+mod reply_fields;
 mod requests;
 mod script;
 mod session;
-mod targets;
 mod unsent;
 mod writing;
 
 pub use alone::{Word, run_alone};
 pub use connection::serve_connection;
 pub use ends::SessionEnd;
+pub use ranges::law_ranges;
 pub use session::{Fed, Session, Want};
 
+#[cfg(test)]
+mod breaks;
+#[cfg(test)]
+mod conversations;
+#[cfg(test)]
+mod replying;
+#[cfg(test)]
+mod stage;
 #[cfg(test)]
 mod tests;

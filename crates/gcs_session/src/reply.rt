@@ -1,20 +1,18 @@
 //! Replies as they are written.
-ghost use Rattle.std.specs.Prelude.{◌≡◌, IfOk, Some, false, string_bytes};
-ghost use Rattle.serde_json.specs.View.{view};
-ghost use Rattle.serde_json.specs.Written.{compact_text, has_float};
-ghost use Rattle.gcs_http_out.specs.Fixed.{fixed_fields};
-ghost use Rattle.gcs_http_out.specs.Head.{texts_of, IsStatus};
-ghost use Rattle.gcs_render.specs.Resources.{object_data};
-ghost use Rattle.gcs_session.specs.Replies.{bucket_in, fault_text, fixed_of, is_closing, memory_text, reply_text, status_in, value_in};
+ghost use Rattle.std.specs.Prelude.{◌≡◌, ◌≤◌, ◌++◌, ◌-◌, IfOk, length, min, take, drop};
+ghost use Rattle.gcs_http_out.specs.Head.{IsStatus};
+ghost use Rattle.gcs_session.specs.Replies.{bare_text, fault_text, fixed_of, is_closing, memory_text, reply_text};
 ghost use Rattle.gcs_session.specs.Running.{outgoing_bytes};
 
+use crate::excerpt::Excerpt;
+use crate::json::{bucket_reply, refusal_reply, resource_reply};
+use crate::media::media_reply;
+use crate::reply_fields::ReplyFields;
 use crate::requests::Request;
 use crate::script::Reply;
+use gcs_chunks::Chunks;
 use gcs_http_in::FrameFault;
-use gcs_http_out::{Ending, Fixed, FixedText, ReplyHead, fixed, head_bytes};
-use gcs_meaning::{BucketName, Row, Settings, Text};
-use gcs_render::{error_value, object_value};
-use serde_json::Value;
+use gcs_http_out::{Ending, Fixed, FixedText, fixed};
 use std::alloc::{AllocError, Global};
 
 /// What a message says of the form of its reply.
@@ -42,103 +40,82 @@ impl Form {
 pub enum Outgoing {
     Text(Vec<u8>),
     Fixed(&'static [u8]),
+    /// A head, and then bytes of a content, which are read as they are given out.
+    Media { head: Vec<u8>, body: Excerpt },
 }
 
 impl Outgoing {
-    pub fn as_slice(&self) -> &[u8]
-        ensures { result.now ≡ outgoing_bytes self.now }
+    /// How many bytes.
+    pub fn len(&self) -> u64
+        ensures { result ≡ length (outgoing_bytes self.now) }
     {
         match self {
-            Outgoing::Text(bytes) => bytes.as_slice(),
-            Outgoing::Fixed(bytes) => *bytes,
+            Outgoing::Text(bytes) => bytes.len() as u64,
+            Outgoing::Fixed(bytes) => bytes.len() as u64,
+            Outgoing::Media { head, body } => head.len() as u64 + body.len(),
+        }
+    }
+
+    /// Writes the bytes from `at` on, as many as fit and are there, and tells how many.
+    pub fn read(&self, chunks: &Chunks, at: u64, into: &mut [u8]) -> usize
+        ensures count { result ≡ min (length into.old) (length (outgoing_bytes self.now) - at) }
+        ensures bytes { into.new ≡ take result (drop at (outgoing_bytes self.now)) ++ drop result into.old }
+    {
+        match self {
+            Outgoing::Text(bytes) => copy_from(bytes, at, into),
+            Outgoing::Fixed(bytes) => copy_from(bytes, at, into),
+            Outgoing::Media { head, body } => read_both(head, body, chunks, at, into),
         }
     }
 }
 
-/// The text of a reply with its JSON body. `Err`: no memory.
+// Writes bytes of the head and then of the body, from `at` on, as many as fit and are there.
+fn read_both(head: &[u8], body: &Excerpt, chunks: &Chunks, at: u64, into: &mut [u8]) -> usize
+    ensures count { result ≡ min (length into.old) (length (head.now ++ body.now) - at) }
+    ensures bytes { into.new ≡ take result (drop at (head.now ++ body.now)) ++ drop result into.old }
+{
+    let count = copy_from(head, at, into);
+    let past = at.saturating_sub(head.len() as u64);
+    count + body.read(chunks, past, &mut into[count..])
+}
+
+// Writes the bytes from `at` on, as many as fit and are there.
+fn copy_from(bytes: &[u8], at: u64, into: &mut [u8]) -> usize
+    ensures count { result ≡ min (length into.old) (length bytes.now - at) }
+    ensures bytes { into.new ≡ take result (drop at bytes.now) ++ drop result into.old }
+{
+    let rest = &bytes[at.min(bytes.len() as u64) as usize..];
+    let count = rest.len().min(into.len());
+    into[..count].copy_from_slice(&rest[..count]);
+    count
+}
+
+/// The text of a reply. `Err`: no memory.
 pub fn write_reply(
     alloc: Global,
     form: Form,
     request: &Request,
     reply: &Reply,
-) -> Result<Vec<u8>, AllocError>
-    ensures { IfOk result (λ bytes. bytes.items ≡ reply_text form request.now reply.now) }
-{
-    let body = json_of(alloc, request, reply)?;
-    let head = json_head(alloc, form.ending, status_of(reply), body.len() as u64)?;
-    let mut text = head_bytes(alloc, &head)?;
-    if !form.head_only {
-        text.extend_from_slice(body.as_bytes())?;
-    }
-    Ok(text)
-}
-
-fn json_of(alloc: Global, request: &Request, reply: &Reply) -> Result<String, AllocError>
-    ensures { IfOk result (λ text. string_bytes text ≡ compact_text (value_in (bucket_in request.now) reply.now)) }
-{
-    let value = value_of(alloc, request, reply)?;
-    value.to_string(alloc)
-}
-
-fn value_of(alloc: Global, request: &Request, reply: &Reply) -> Result<Value, AllocError>
-    ensures value { IfOk result (λ value. view value ≡ value_in (bucket_in request.now) reply.now) }
-    ensures whole { IfOk result (λ value. has_float (view value) ≡ false) }
+) -> Result<Outgoing, AllocError>
+    ensures { IfOk result (λ outgoing. outgoing_bytes outgoing ≡ reply_text form request.now reply.now) }
 {
     match reply {
-        Reply::Refused(reason) => error_value(alloc, reason),
-        Reply::Object(row, settings) => resource_of(alloc, request, row, settings),
+        Reply::Refused(reason) => refusal_reply(alloc, form, reason),
+        Reply::Object(row, settings) => resource_reply(alloc, form, request, row, settings),
+        Reply::Media { row, part } => media_reply(alloc, form, row, *part),
+        Reply::Bucket(row) => bucket_reply(alloc, form, row),
+        Reply::NoContent => bare_reply(alloc, form, 204),
     }
 }
 
-fn status_of(reply: &Reply) -> u16
-    ensures status { result ≡ status_in reply.now }
-    ensures known { IsStatus result }
+// A head alone, without a length. `Err`: no memory.
+fn bare_reply(alloc: Global, form: Form, status: u16) -> Result<Outgoing, AllocError>
+    requires { IsStatus status }
+    ensures { IfOk result (λ outgoing. outgoing_bytes outgoing ≡ bare_text form status) }
 {
-    match reply {
-        Reply::Refused(reason) => reason.status(),
-        Reply::Object(_, _) => 200,
-    }
-}
-
-fn resource_of(
-    alloc: Global,
-    request: &Request,
-    row: &Row,
-    settings: &Settings,
-) -> Result<Value, AllocError>
-    ensures value { IfOk result (λ value. view value ≡ object_data (bucket_in request.now) row.now settings.now) }
-    ensures whole { IfOk result (λ value. has_float (view value) ≡ false) }
-{
-    match request {
-        Request::Upload { bucket, .. } => object_value(alloc, bucket, row, settings),
-        Request::Refused(_) => {
-            let none = BucketName::new(Text::new(alloc));
-            object_value(alloc, &none, row, settings)
-        }
-    }
-}
-
-fn json_head(
-    alloc: Global,
-    ending: Ending,
-    status: u16,
-    length: u64,
-) -> Result<ReplyHead, AllocError>
-    ensures status { IfOk result (λ head. head.status ≡ status) }
-    ensures fields { IfOk result (λ head. texts_of head.fields.items ≡ fixed_fields) }
-    ensures length { IfOk result (λ head. head.length ≡ Some length) }
-    ensures ending { IfOk result (λ head. head.ending ≡ ending) }
-{
-    let mut fields = Vec::new(alloc);
-    let name = String::from_str(alloc, "Content-Type")?;
-    let value = String::from_str(alloc, "application/json; charset=UTF-8")?;
-    fields.push((name, value))?;
-    Ok(ReplyHead {
-        status,
-        fields,
-        length: Some(length),
-        ending,
-    })
+    let fields = ReplyFields::new(alloc);
+    let head = fields.into_head(alloc, status, None, form.ending)?;
+    Ok(Outgoing::Text(head))
 }
 
 /// The constant reply of want of memory, before any step of a request or after one.

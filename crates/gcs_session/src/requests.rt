@@ -1,126 +1,203 @@
 //! What a message asks for: what its head alone wants, and the whole request once its body is there.
-ghost use Rattle.std.specs.Prelude.{◌≡◌, ℕ, List, IfOk, MatchOption, Some, None, codes, true, nat_le, not, ◌==◌, ◌&&◌};
-ghost use Rattle.std.specs.List.{list_all};
+ghost use Rattle.std.specs.Prelude.{◌≡◌, ℕ, List, IfOk, IfErr, Some};
+ghost use Rattle.gcs_http_in.specs.declared.limits.Limits.{Limits};
 ghost use Rattle.gcs_http_in.specs.Head.{Head};
-ghost use Rattle.gcs_http_in.specs.Fields.{first_of, values_of};
-ghost use Rattle.std.specs.Option.{option_copied};
-ghost use Rattle.gcs_meaning.specs.Content.{bytes_in};
-ghost use Rattle.gcs_session.specs.Calls.{is_text, text_of_field, IsCall, IsPlainName, IsWanted};
+ghost use Rattle.gcs_meaning.specs.Desk.{AreUnmoved};
+ghost use Rattle.gcs_session.specs.Bodies.{is_content, is_text, IsGathered};
+ghost use Rattle.gcs_session.specs.Calls.{brings_json, head_refusal, part_of, IsBodyFault, IsCall, IsCallOf, IsGiven, IsWanted};
+ghost use Rattle.gcs_session.specs.Coming.{brings_content, brings_text, is_json, is_whole};
+ghost use Rattle.gcs_session.specs.Heads.{IsReadOf};
+ghost use Rattle.gcs_session.specs.Scripts.{IsAskable, IsGivenInLimits};
 
-use crate::targets::upload_names;
-use gcs_meaning::{BucketName, Hashed, Name, Reason, Text};
-use gcs_names::{BadName, bucket_name};
+use crate::body::Body;
+use crate::heads::{HeadFields, is_given, method_by, range_of, text_of};
+use crate::json_bodies::{GivenFault, read_given};
+use crate::ranges::Range;
+use gcs_json::BucketBody;
+use gcs_meaning::{Desk, Hashed, Key, Reason, Text};
+use gcs_route::{Call, RouteFault, route};
 use std::alloc::{AllocError, Global};
 
 /// A request, or the reason why it is refused before any step.
 #[derive(Drop)]
 pub enum Request {
     Refused(Reason),
-    /// The upload of an object whole. `kind` is the content type that the head gives.
-    Upload {
-        bucket: BucketName,
-        name: Name,
-        kind: Option<Text>,
-        hashed: Hashed,
-    },
+    Asks { call: Call, given: Given },
+}
+
+/// What a message gives beside its call.
+#[derive(Drop)]
+pub enum Given {
+    Nothing,
+    /// A read of bytes can have a range.
+    Read { range: Option<Range> },
+    /// The content of an upload, with the content type that the head gives.
+    Whole { kind: Option<Text>, hashed: Hashed },
+    /// What the JSON body of a bucket says.
+    Bucket(BucketBody),
 }
 
 /// What a head asks for, before its body has come.
 #[derive(Drop)]
 pub enum Wanted {
     Refused(Reason),
-    Upload {
-        bucket: BucketName,
-        name: Name,
-        kind: Option<Text>,
-    },
+    Asks { call: Call, part: HeadPart },
 }
 
-/// What a head asks for, by its method, its target and its `Content-Type`. `Err`: no memory.
-pub fn read_head(
-    alloc: Global,
-    method: &[u8],
-    target: &[u8],
-    content_type: Option<&[u8]>,
-) -> Result<Wanted, AllocError>
-    ensures { IfOk result (λ wanted. (head : Head) → head.method ≡ method.now → head.target ≡ target.now
-        → MatchOption content_type.entry (first_of (values_of (codes "content-type") head.fields) ≡ None)
-        (λ value. first_of (values_of (codes "content-type") head.fields) ≡ Some value.now)
-        → IsWanted head wanted) }
+/// What a head gives beside its call.
+#[derive(Drop)]
+pub enum HeadPart {
+    Nothing,
+    Read { range: Option<Range> },
+    /// A content comes.
+    Whole { kind: Option<Text> },
+    /// A JSON text comes, which must not be encoded.
+    Json { encoded: bool },
+}
+
+/// What a head asks for. `Err`: no memory.
+pub fn read_head(alloc: Global, fields: &HeadFields<'_>) -> Result<Wanted, AllocError>
+    ensures { IfOk result (λ wanted. (head : Head) → IsReadOf head fields.now → IsWanted head wanted) }
 {
-    if method != b"POST".as_slice() {
-        return Ok(Wanted::Refused(Reason::NotBuilt));
+    let method = method_by(fields.method, fields.method_override);
+    match route(alloc, method, fields.target) {
+        Ok(call) => wanted_of(alloc, call, fields),
+        Err(RouteFault::Refused(reason)) => Ok(Wanted::Refused(reason)),
+        Err(RouteFault::NoMemory) => Err(AllocError),
     }
-    let Some((bucket, name)) = upload_names(target) else {
-        return Ok(Wanted::Refused(Reason::NotBuilt));
-    };
-    match bucket_name(alloc, bucket) {
-        Ok(bucket) => {
-            let name = name_of(alloc, name)?;
-            let kind = text_of(alloc, content_type)?;
-            Ok(Wanted::Upload { bucket, name, kind })
+}
+
+// What the head of a call asks for.
+fn wanted_of(alloc: Global, call: Call, fields: &HeadFields<'_>) -> Result<Wanted, AllocError>
+    ensures { IfOk result (λ wanted. (head : Head) → IsReadOf head fields.now → IsCallOf head call → IsWanted head wanted) }
+{
+    if let Some(reason) = head_refusal(&call) {
+        drop(call);
+        return Ok(Wanted::Refused(reason));
+    }
+    match part_of(alloc, &call, fields) {
+        Ok(part) => Ok(Wanted::Asks { call, part }),
+        Err(error) => {
+            drop(call);
+            Err(error)
         }
-        Err(BadName::Form) => Ok(Wanted::Refused(Reason::NotBuilt)),
-        Err(BadName::NoMemory) => Err(AllocError),
     }
 }
 
-fn name_of(alloc: Global, bytes: &[u8]) -> Result<Name, AllocError>
-    requires { IsPlainName bytes.now }
-    ensures { IfOk result (λ name. name ≡ bytes.now) }
+fn head_refusal(call: &Call) -> Option<Reason>
+    ensures { result ≡ head_refusal call.now }
 {
-    match str::from_utf8(bytes) {
-        Ok(text) => Ok(Name::new(Text::from_str(alloc, text)?)),
-        Err(_) => unreachable!(),
+    if call.row == 18 && call.name.is_none() {
+        Some(Reason::Required { key: Key::Name })
+    } else {
+        None
     }
 }
 
-// A value that is no text counts as absent.
-fn text_of(alloc: Global, value: Option<&[u8]>) -> Result<Option<Text>, AllocError>
-    ensures { IfOk result (λ made. made ≡ text_of_field (option_copied value.entry)) }
+fn part_of(alloc: Global, call: &Call, fields: &HeadFields<'_>) -> Result<HeadPart, AllocError>
+    ensures { IfOk result (λ part. (head : Head) → IsReadOf head fields.now → part ≡ part_of call.now head) }
 {
-    let Some(value) = value else {
-        return Ok(None);
-    };
-    let Ok(text) = str::from_utf8(value) else {
-        return Ok(None);
-    };
-    if !is_field_text(text) {
-        return Ok(None);
+    match call.row {
+        10 | 21 => Ok(HeadPart::Read {
+            range: if call.media {
+                range_of(fields.range)
+            } else {
+                None
+            },
+        }),
+        18 => {
+            let kind = text_of(alloc, fields.content_type)?;
+            Ok(HeadPart::Whole { kind })
+        }
+        row if brings_json(row) => Ok(HeadPart::Json {
+            encoded: is_given(fields.content_encoding),
+        }),
+        _ => Ok(HeadPart::Nothing),
     }
-    Ok(Some(Text::from_str(alloc, text)?))
 }
 
-fn is_field_text(text: &str) -> bool
-    ensures { result ≡ is_text text.now }
+// Whether the requests of a row have a JSON body.
+fn brings_json(row: u32) -> bool
+    ensures { result ≡ brings_json row }
 {
-    let bytes = text.as_bytes();
-    if bytes.is_empty() || bytes.len() > 1024 {
-        return false;
-    }
-    are_field_bytes(bytes)
+    matches!(row, 1 | 4 | 5)
 }
 
-fn are_field_bytes(bytes: &[u8]) -> bool
-    ensures { result ≡ list_all (λ byte. nat_le 32 byte && not (byte == 127)) bytes.now }
-{
-    bytes.iter().all(|byte| *byte >= 32 && *byte != 127)
-}
-
-/// The request of what was wanted, once the content has come.
-pub fn request_of(wanted: Wanted, hashed: Hashed) -> Request
-    ensures { (head : Head) (body : List ℕ) → IsWanted head wanted → bytes_in hashed ≡ body → hashed.with_md5 ≡ true → IsCall head body result }
+/// The request of what was wanted, once the body has come. `Err`: memory lacked for the body.
+pub fn request_of<D: Desk>(
+    alloc: Global,
+    desk: &mut D,
+    wanted: Wanted,
+    body: Body,
+) -> Result<Request, AllocError>
+    requires content { is_content body ≡ brings_content (Some wanted) }
+    requires text { is_text body ≡ brings_text (Some wanted) }
+    requires gathered { (most : ℕ) × (bytes : List ℕ) × IsGathered most body bytes }
+    ensures request { IfOk result (λ request. (limits : Limits) (head : Head) (bytes : List ℕ) → IsWanted head wanted
+        → IsGathered limits.json body bytes → IsCall limits head bytes request) }
+    ensures askable { IfOk result (λ request. IsAskable request) }
+    ensures caller { D.caller desk.new ≡ D.caller desk.old }
+    ensures lists { AreUnmoved (D.seen desk.old) (D.mine desk.old) (D.seen desk.new) (D.mine desk.new) }
 {
     match wanted {
         Wanted::Refused(reason) => {
-            drop(hashed);
-            Request::Refused(reason)
+            drop(body);
+            Ok(Request::Refused(reason))
         }
-        Wanted::Upload { bucket, name, kind } => Request::Upload {
-            bucket,
-            name,
-            kind,
-            hashed,
+        Wanted::Asks { call, part } => match given_of(alloc, desk, &call, part, body) {
+            Ok(given) => Ok(Request::Asks { call, given }),
+            Err(fault) => {
+                drop(call);
+                refused_by(fault)
+            }
         },
+    }
+}
+
+// The refusal of a body.
+fn refused_by(fault: GivenFault) -> Result<Request, AllocError>
+    ensures { IfOk result (λ request. (reason : Reason) × (fault ≡ GivenFault.Refused reason) × (request ≡ Request.Refused reason)) }
+{
+    match fault {
+        GivenFault::Refused(reason) => Ok(Request::Refused(reason)),
+        GivenFault::NoMemory => Err(AllocError),
+    }
+}
+
+// What a message gives whose head gives this part.
+fn given_of<D: Desk>(
+    alloc: Global,
+    desk: &mut D,
+    call: &Call,
+    part: HeadPart,
+    body: Body,
+) -> Result<Given, GivenFault>
+    requires content { is_content body ≡ is_whole part }
+    requires text { is_text body ≡ is_json part }
+    requires gathered { (most : ℕ) × (bytes : List ℕ) × IsGathered most body bytes }
+    ensures given { IfOk result (λ given. (most : ℕ) (bytes : List ℕ) → IsGathered most body bytes → IsGiven most call.now part bytes given) }
+    ensures refused { IfErr result (λ fault. (reason : Reason) → fault ≡ GivenFault.Refused reason
+        → (most : ℕ) (bytes : List ℕ) → IsGathered most body bytes → IsBodyFault most call.now part bytes reason) }
+    ensures limits { IfOk result (λ given. IsGivenInLimits given) }
+    ensures caller { D.caller desk.new ≡ D.caller desk.old }
+    ensures lists { AreUnmoved (D.seen desk.old) (D.mine desk.old) (D.seen desk.new) (D.mine desk.new) }
+{
+    match part {
+        HeadPart::Nothing => {
+            drop(body);
+            Ok(Given::Nothing)
+        }
+        HeadPart::Read { range } => {
+            drop(body);
+            Ok(Given::Read { range })
+        }
+        HeadPart::Whole { kind } => match body.finish(desk) {
+            Ok(hashed) => Ok(Given::Whole { kind, hashed }),
+            Err(_) => {
+                drop(kind);
+                Err(GivenFault::NoMemory)
+            }
+        },
+        HeadPart::Json { encoded } => read_given(alloc, call.row, encoded, body),
     }
 }

@@ -1,19 +1,29 @@
 //! The steps of a request, one after the other, and what it says at the end.
-ghost use Rattle.std.specs.Prelude.{◌≡◌, [], IfOk, unwrap_or};
-ghost use Rattle.gcs_session.specs.Scripts.{plain_meta, reply_of, script, no_expect, no_pre, usual_type};
+ghost use Rattle.std.specs.Prelude.{◌≡◌, IfOk, unwrap_or};
+ghost use Rattle.gcs_meaning.specs.Moment.{shard_number};
+ghost use Rattle.gcs_meaning.specs.ObjectChanges.{default_content_type};
+ghost use Rattle.gcs_session.specs.Scripts.{bare_move, bucket_change_move, bucket_move, first_move, get_move, insert_move, no_expect, object_reply, put_move, range_given, reply_of, script, upload_meta};
 
-use crate::requests::Request;
+use crate::inserts::inserted_settings;
+use crate::ranges::{Range, range_reply};
+use crate::requests::{Given, Request};
+use gcs_json::BucketBody;
 use gcs_meaning::{
-    Answer, BucketName, Command, Copied, Expect, Hashed, Meta, Name, Pairs, Pre, Reason, Row,
+    Answer, BucketName, BucketRow, Command, Copied, Expect, Hashed, Meta, Name, Pairs, Reason, Row,
     Settings, Text, shard_of,
 };
+use gcs_route::Call;
 use std::alloc::{AllocError, Global};
 
 /// What a request says.
 #[derive(Drop)]
 pub enum Reply {
     Refused(Reason),
+    Bucket(BucketRow),
     Object(Row, Settings),
+    /// The bytes of a version, or the part of them from the first of these places up to and with the last.
+    Media { row: Row, part: Option<(u64, u64)> },
+    NoContent,
 }
 
 /// What a request does next: a step in a shard, or its reply.
@@ -29,69 +39,189 @@ pub fn next(alloc: Global, request: &Request, answers: &[Answer]) -> Result<Move
 {
     match request {
         Request::Refused(reason) => Ok(Move::Say(Reply::Refused(*reason))),
-        Request::Upload {
-            bucket,
-            name,
-            kind,
-            hashed,
-        } => match answers {
-            [] => ask_put(alloc, bucket, name, kind, hashed),
-            [answer, ..] => Ok(Move::Say(say(answer)?)),
+        Request::Asks { call, given } => match answers {
+            [] => first_move(alloc, call, given),
+            [answer, ..] => Ok(Move::Say(say(call, given, answer)?)),
         },
     }
 }
 
-fn say(answer: &Answer) -> Result<Reply, AllocError>
-    ensures { IfOk result (λ reply. reply ≡ reply_of answer.now) }
+// What a call says of the answer to its command.
+fn say(call: &Call, given: &Given, answer: &Answer) -> Result<Reply, AllocError>
+    ensures { IfOk result (λ reply. reply ≡ reply_of call.now given.now answer.now) }
 {
     match answer {
-        Answer::Object(row, settings) => {
-            let row = row.copy()?;
-            let settings = settings.copy()?;
-            Ok(Reply::Object(row, settings))
-        }
+        Answer::Object(row, settings) => say_object(call, given, row, settings),
+        Answer::Bucket(row) => Ok(Reply::Bucket(row.copy()?)),
+        Answer::Empty => Ok(Reply::NoContent),
         Answer::Refused(reason) => Ok(Reply::Refused(*reason)),
         _ => Ok(Reply::Refused(Reason::NotBuilt)),
     }
 }
 
+// A version as a read of bytes, or any other call, says it.
+fn say_object(
+    call: &Call,
+    given: &Given,
+    row: &Row,
+    settings: &Settings,
+) -> Result<Reply, AllocError>
+    ensures { IfOk result (λ reply. reply ≡ object_reply call.now given.now row.now settings.now) }
+{
+    if call.media {
+        return range_reply(range_given(given), row);
+    }
+    let row = row.copy()?;
+    let settings = settings.copy()?;
+    Ok(Reply::Object(row, settings))
+}
+
+fn range_given(given: &Given) -> Option<Range>
+    ensures { result ≡ range_given given.now }
+{
+    match given {
+        Given::Read { range } => *range,
+        _ => None,
+    }
+}
+
+// The command of a call, or that it is not built.
+fn first_move(alloc: Global, call: &Call, given: &Given) -> Result<Move, AllocError>
+    ensures { IfOk result (λ next. next ≡ first_move call.now given.now) }
+{
+    match given {
+        Given::Nothing => ask_bare(call),
+        Given::Read { .. } => ask_get(call),
+        Given::Whole { kind, hashed } => ask_put(alloc, call, kind, hashed),
+        Given::Bucket(body) => ask_bucket(alloc, call, body),
+    }
+}
+
+fn not_built() -> Move
+    ensures { result ≡ Move.Say (Reply.Refused Reason.NotBuilt) }
+{
+    Move::Say(Reply::Refused(Reason::NotBuilt))
+}
+
+// A step in the shard of that bucket.
+fn ask(bucket: &BucketName, command: Command) -> Move
+    ensures { result ≡ Move.Ask (shard_number bucket.now) command }
+{
+    Move::Ask {
+        shard: shard_of(bucket.as_bytes()),
+        command,
+    }
+}
+
+// The command of a call that gives nothing beside it.
+fn ask_bare(call: &Call) -> Result<Move, AllocError>
+    ensures { IfOk result (λ next. next ≡ bare_move call.now) }
+{
+    let Some(name) = call.buckets.get(0) else {
+        return Ok(not_built());
+    };
+    let pre = call.pre;
+    match call.row {
+        3 => {
+            let bucket = name.copy()?;
+            Ok(ask(name, Command::BucketGet { bucket, pre }))
+        }
+        6 => {
+            let bucket = name.copy()?;
+            Ok(ask(name, Command::BucketDelete { bucket, pre }))
+        }
+        _ => Ok(not_built()),
+    }
+}
+
+// The insert of a bucket, or its change.
+fn ask_bucket(alloc: Global, call: &Call, body: &BucketBody) -> Result<Move, AllocError>
+    ensures { IfOk result (λ next. next ≡ bucket_move call.now body.now) }
+{
+    if call.row == 1 {
+        ask_insert(alloc, body)
+    } else {
+        ask_bucket_change(call, body)
+    }
+}
+
+fn ask_insert(alloc: Global, body: &BucketBody) -> Result<Move, AllocError>
+    ensures { IfOk result (λ next. next ≡ insert_move body.now.name body.now) }
+{
+    let Some(name) = &body.name else {
+        return Ok(not_built());
+    };
+    let bucket = name.copy()?;
+    let settings = inserted_settings(alloc, body)?;
+    Ok(ask(name, Command::BucketInsert { bucket, settings }))
+}
+
+fn ask_bucket_change(call: &Call, body: &BucketBody) -> Result<Move, AllocError>
+    ensures { IfOk result (λ next. next ≡ bucket_change_move call.now body.now) }
+{
+    let Some(name) = call.buckets.get(0) else {
+        return Ok(not_built());
+    };
+    let bucket = name.copy()?;
+    let change = body.change.copy()?;
+    Ok(ask(
+        name,
+        Command::BucketChange {
+            bucket,
+            pre: call.pre,
+            change,
+            whole: call.row == 5,
+        },
+    ))
+}
+
+fn ask_get(call: &Call) -> Result<Move, AllocError>
+    ensures { IfOk result (λ next. next ≡ get_move call.now) }
+{
+    let (Some(place), Some(name)) = (call.buckets.get(0), call.objects.get(0)) else {
+        return Ok(not_built());
+    };
+    let bucket = place.copy()?;
+    let name = name.copy()?;
+    Ok(ask(
+        place,
+        Command::Get {
+            bucket,
+            name,
+            generation: call.generation,
+            soft: call.soft,
+            pre: call.pre,
+        },
+    ))
+}
+
 fn ask_put(
     alloc: Global,
-    bucket: &BucketName,
-    name: &Name,
+    call: &Call,
     kind: &Option<Text>,
     hashed: &Hashed,
 ) -> Result<Move, AllocError>
-    ensures { IfOk result (λ next. next ≡ script (Request.Upload bucket.now name.now kind.now hashed.now) []) }
+    ensures { IfOk result (λ next. next ≡ put_move call.now call.now.name kind.now hashed.now) }
 {
-    let shard = shard_of(bucket.as_bytes());
-    let bucket = bucket.copy()?;
-    let name = name.copy()?;
-    let meta = meta_of(alloc, kind)?;
+    let (Some(place), Some(name)) = (call.buckets.get(0), &call.name) else {
+        return Ok(not_built());
+    };
+    let bucket = place.copy()?;
+    let name = Name::new(name.copy()?);
+    let meta = upload_meta(alloc, kind, &call.encoding)?;
     let hashed = hashed.copy()?;
-    Ok(Move::Ask {
-        shard,
-        command: Command::Put {
+    Ok(ask(
+        place,
+        Command::Put {
             bucket,
             name,
-            pre: no_pre(),
+            pre: call.pre,
             meta,
             hashed,
             components: None,
             expect: no_expect(),
         },
-    })
-}
-
-fn no_pre() -> Pre
-    ensures { result ≡ no_pre }
-{
-    Pre {
-        generation_is: None,
-        generation_not: None,
-        metageneration_is: None,
-        metageneration_not: None,
-    }
+    ))
 }
 
 fn no_expect() -> Expect
@@ -103,14 +233,18 @@ fn no_expect() -> Expect
     }
 }
 
-fn meta_of(alloc: Global, kind: &Option<Text>) -> Result<Meta, AllocError>
-    ensures { IfOk result (λ meta. meta ≡ plain_meta kind.now) }
+fn upload_meta(
+    alloc: Global,
+    kind: &Option<Text>,
+    encoding: &Option<Text>,
+) -> Result<Meta, AllocError>
+    ensures { IfOk result (λ meta. meta ≡ upload_meta kind.now encoding.now) }
 {
     Ok(Meta {
         content_type: type_of(alloc, kind)?,
         cache_control: None,
         content_disposition: None,
-        content_encoding: None,
+        content_encoding: encoding.copy()?,
         content_language: None,
         storage_class: None,
         custom_time: None,
@@ -121,7 +255,7 @@ fn meta_of(alloc: Global, kind: &Option<Text>) -> Result<Meta, AllocError>
 }
 
 fn type_of(alloc: Global, kind: &Option<Text>) -> Result<Text, AllocError>
-    ensures { IfOk result (λ made. made ≡ unwrap_or kind.now usual_type) }
+    ensures { IfOk result (λ made. made ≡ unwrap_or kind.now default_content_type) }
 {
     match kind {
         Some(kind) => kind.copy(),

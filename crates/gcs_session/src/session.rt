@@ -14,6 +14,7 @@ ghost use Rattle.gcs_session.specs.Session.{IsFed, IsGatheredTo, IsReplied, IsRu
 
 use crate::answering::respond;
 use crate::coming::Coming;
+use crate::heads::HeadFields;
 use crate::reply::{Outgoing, fault_reply};
 use crate::unsent::Unsent;
 use gcs_chunks::Chunks;
@@ -131,7 +132,7 @@ impl Session {
     }
 
     /// Gives out the bytes that wait, from the first on, as many as fit.
-    pub fn drain(&mut self, _chunks: &Chunks, into: &mut [u8]) -> usize
+    pub fn drain(&mut self, chunks: &Chunks, into: &mut [u8]) -> usize
         ensures limits { limits_in self.new ≡ limits_in self.old }
         ensures closed { self.new.closed ≡ self.old.closed }
         ensures count { result ≡ min (length into.old) (length (waiting_in self.old)) }
@@ -140,7 +141,7 @@ impl Session {
         ensures session { (bytes : List ℕ) (messages : List Message) (text drained : List ℕ) → IsSession self.old bytes messages text drained
             → IsSession self.new bytes messages text (drained ++ take result (waiting_in self.old)) }
     {
-        self.unsent.give(into)
+        self.unsent.give(chunks, into)
     }
 
     /// Whether bytes wait to be written.
@@ -200,13 +201,20 @@ impl Session {
         ensures coming { (bytes : List ℕ) (messages : List Message) (it : Current) → Stands self.old.framer bytes messages (Some it)
             → it.content ≡ [] → IsUnderWay (limits_of self.old.framer) messages (Some it) self.new.coming }
     {
+        let fields = HeadFields {
+            method: self.framer.method(),
+            target: self.framer.target(),
+            method_override: self.framer.field(b"x-http-method-override"),
+            content_type: self.framer.field(b"content-type"),
+            content_encoding: self.framer.field(b"content-encoding"),
+            range: self.framer.field(b"range"),
+        };
         let coming = Coming::new(
             self.alloc,
-            self.framer.method(),
-            self.framer.target(),
-            self.framer.field(b"content-type"),
+            &fields,
             self.framer.minor(),
             self.framer.keeps(),
+            self.framer.limits().json,
         );
         self.coming = Some(coming);
     }
@@ -220,15 +228,15 @@ impl Session {
         ensures lists { AreUnmoved (D.seen desk.old) (D.mine desk.old) (D.seen desk.new) (D.mine desk.new) }
     {
         if let Some(coming) = &mut self.coming {
-            coming.body.keep(desk, part);
+            coming.body.take(desk, part);
         }
     }
 
     // Answers the message under way, which is whole.
     fn answer<C: Clock, D: Desk>(&mut self, desk: &mut D, clock: &mut C)
-        requires { (head : Head) × (content : List ℕ) × (keeps : Bool) × IsWholeIn head content keeps self.old.coming }
+        requires { (head : Head) × (content : List ℕ) × (keeps : Bool) × IsWholeIn (limits_in self.old) head content keeps self.old.coming }
         ensures framer { self.new.framer ≡ self.old.framer }
-        ensures answered { (head : Head) (content : List ℕ) (keeps : Bool) → IsWholeIn head content keeps self.old.coming
+        ensures answered { (head : Head) (content : List ℕ) (keeps : Bool) → IsWholeIn (limits_in self.old) head content keeps self.old.coming
             → IsReplied (D.caller desk.old)
             (record { given = C.given clock.old; saw = D.seen desk.old; own = D.mine desk.old })
             (record { given = C.given clock.new; saw = D.seen desk.new; own = D.mine desk.new })

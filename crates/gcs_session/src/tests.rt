@@ -10,11 +10,11 @@ use std::test::Fail;
 // 2023-11-14T22:13:20.000Z.
 const START: u64 = 1_700_000_000_000_000;
 
-// The reply to an upload of that name: its generation, crc32c, md5 and size, as texts.
+// The reply that shows a version of that name, its body of so many bytes: its generation, crc32c, md5 and size, as texts.
 macro_rules! object {
-    ($name:literal, $generation:literal, $crc:literal, $md5:literal, $size:literal) => {
+    ($length:literal, $name:literal, $generation:literal, $crc:literal, $md5:literal, $size:literal) => {
         concat!(
-            "HTTP/1.1 200 OK\r\nContent-Type: application/json; charset=UTF-8\r\nContent-Length: 375\r\n\r\n",
+            "HTTP/1.1 200 OK\r\nContent-Type: application/json; charset=UTF-8\r\nContent-Length: ", $length, "\r\n\r\n",
             "{\"bucket\":\"tub\",\"contentType\":\"application/octet-stream\",\"crc32c\":\"", $crc,
             "\",\"etag\":\"", $generation, "/1\",\"generation\":\"", $generation,
             "\",\"id\":\"tub/", $name, "/", $generation,
@@ -25,22 +25,36 @@ macro_rules! object {
     };
 }
 
+// The reply that refuses, its body of so many bytes.
 macro_rules! refusal {
-    ($code:literal, $phrase:literal, $message:literal, $word:literal) => {
+    ($code:literal, $phrase:literal, $length:literal, $message:literal, $word:literal) => {
         concat!(
             "HTTP/1.1 ", $code, " ", $phrase,
-            "\r\nContent-Type: application/json; charset=UTF-8\r\nContent-Length: 117\r\n\r\n",
+            "\r\nContent-Type: application/json; charset=UTF-8\r\nContent-Length: ", $length, "\r\n\r\n",
             "{\"error\":{\"code\":", $code, ",\"errors\":[{\"domain\":\"global\",\"message\":\"", $message,
             "\",\"reason\":\"", $word, "\"}],\"message\":\"", $message, "\"}}"
         )
     };
 }
 
+mod buckets;
+mod calls;
+mod media;
+
 const EMPTY: &str =
     "POST /upload/storage/v1/b/tub/o?uploadType=media&name=a HTTP/1.1\r\nHost: h\r\nContent-Length: 0\r\n\r\n";
 
 const DIGITS: &str =
     "POST /upload/storage/v1/b/tub/o?uploadType=media&name=d HTTP/1.1\r\nHost: h\r\nContent-Length: 9\r\n\r\n123456789";
+
+// The texts one after the other.
+fn concat(alloc: Global, texts: &[&str]) -> Result<String, Fail> {
+    let mut all = String::new(alloc);
+    for text in texts {
+        all.push_str(*text)?;
+    }
+    Ok(all)
+}
 
 // How a run goes: the size of the pieces that are read, the reads and writes that fail, and the clock.
 #[derive(Drop)]
@@ -104,6 +118,7 @@ fn run_words(
 fn an_upload_is_answered_by_its_object(rt: HostRuntime) -> Result<(), Fail> {
     let alloc = rt.alloc();
     let object = object!(
+        375,
         "a",
         "1700000000000000",
         "AAAAAA==",
@@ -120,6 +135,7 @@ fn an_upload_is_answered_by_its_object(rt: HostRuntime) -> Result<(), Fail> {
 fn a_byte_at_a_time_makes_no_difference(rt: HostRuntime) -> Result<(), Fail> {
     let alloc = rt.alloc();
     let object = object!(
+        375,
         "d",
         "1700000000000000",
         "4waSgw==",
@@ -140,6 +156,7 @@ fn a_byte_at_a_time_makes_no_difference(rt: HostRuntime) -> Result<(), Fail> {
 fn generations_rise_at_one_reading_and_at_an_earlier_one(rt: HostRuntime) -> Result<(), Fail> {
     let alloc = rt.alloc();
     let first = object!(
+        375,
         "a",
         "1700000000000000",
         "AAAAAA==",
@@ -147,6 +164,7 @@ fn generations_rise_at_one_reading_and_at_an_earlier_one(rt: HostRuntime) -> Res
         "0"
     );
     let second = object!(
+        375,
         "a",
         "1700000000000001",
         "AAAAAA==",
@@ -175,20 +193,7 @@ fn without_its_bucket_an_upload_is_404(rt: HostRuntime) -> Result<(), Fail> {
     assert_eq!(rt; status, 0);
     assert_eq!(rt;
         sink.written(),
-        refusal!("404", "Not Found", "no bucket", "notFound").as_bytes()
-    );
-    Ok(())
-}
-
-#[test]
-fn what_is_not_built_is_501(rt: HostRuntime) -> Result<(), Fail> {
-    let alloc = rt.alloc();
-    let get = "GET /storage/v1/b/tub HTTP/1.1\r\nHost: h\r\n\r\n";
-    let (status, sink) = run(alloc, get, Course::smooth(alloc)?)?;
-    assert_eq!(rt; status, 0);
-    assert_eq!(rt;
-        sink.written(),
-        refusal!("501", "Not Implemented", "not built", "notBuilt").as_bytes()
+        refusal!(404, "Not Found", 117, "no bucket", "notFound").as_bytes()
     );
     Ok(())
 }

@@ -3,13 +3,16 @@ ghost use Rattle.std.specs.Prelude.{◌≡◌, ◌≤◌, ◌<◌, ◌-◌, ◌�
 ghost use Rattle.gcs_session.specs.Running.{outgoing_bytes};
 
 use crate::reply::Outgoing;
+use gcs_chunks::Chunks;
 
 /// A reply, of which the first bytes have been given out.
 #[derive(Drop)]
 pub struct Unsent {
     text: Outgoing,
-    sent: usize,
-    ghost within: { sent ≤ length (outgoing_bytes text) },
+    size: u64,
+    sent: u64,
+    ghost whole: { size ≡ length (outgoing_bytes text) },
+    ghost within: { sent ≤ size },
 }
 
 impl Unsent {
@@ -19,25 +22,28 @@ impl Unsent {
     pub fn new(text: Outgoing) -> Unsent
         ensures { unsent_bytes result ≡ outgoing_bytes text }
     {
-        Unsent { text, sent: 0 }
+        let size = text.len();
+        Unsent {
+            text,
+            size,
+            sent: 0,
+        }
     }
 
     pub fn is_empty(&self) -> bool
         ensures { IsTrue result ↔ (unsent_bytes self.now ≡ []) }
     {
-        self.sent == self.text.as_slice().len()
+        self.sent == self.size
     }
 
     /// Gives out the first bytes, as many as fit.
-    pub fn give(&mut self, into: &mut [u8]) -> usize
+    pub fn give(&mut self, chunks: &Chunks, into: &mut [u8]) -> usize
         ensures count { result ≡ min (length into.old) (length (unsent_bytes self.old)) }
         ensures bytes { take result into.new ≡ take result (unsent_bytes self.old) }
         ensures rest { unsent_bytes self.new ≡ drop result (unsent_bytes self.old) }
     {
-        let text = &self.text.as_slice()[self.sent..];
-        let count = into.len().min(text.len());
-        into[..count].copy_from_slice(&text[..count]);
-        self.sent += count;
+        let count = self.text.read(chunks, self.sent, into);
+        self.sent += count as u64;
         count
     }
 }

@@ -5,6 +5,6 @@ use Rattle.gcs_render.proofs.Whole.{buckets_data-whole}
 use Rattle.gcs_render.proofs.lists.buckets_value.Goals as goal
 
 pub returns-clause-whole : goal.returns-clause-whole
-returns-clause-whole c whole =
+returns-clause-whole c =
     let made : view c.into_value.result ≡ buckets_data c.args.rows.now (option_map (λ t. t.now) c.args.token) = search rules in
-    rw made (buckets_data-whole c.args.rows.now _ whole)
+    rw made (buckets_data-whole c.args.rows.now _)

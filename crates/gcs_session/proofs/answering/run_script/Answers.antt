@@ -1,10 +1,10 @@
-use Rattle.std.proofs.Common.{◌≡◌, ◌∙◌, ◌++◌, ◌∷◌, [], ◌+◌, ◌≤◌, ℕ, List, ap, sym, subst, length, arith, length-append, not, nat_eq}
+use Rattle.std.proofs.Common.{◌≡◌, ◌∙◌, ◌++◌, ◌∷◌, [], ◌+◌, ℕ, List, ap, sym, subst, length, arith, length-append, not, nat_eq}
 use Rattle.gcs_meaning.specs.declared.command.Answer.{Answer}
-use Rattle.gcs_meaning.specs.Desk.{AreLists, IsStepped, AreUnmoved}
+use Rattle.gcs_meaning.specs.Desk.{IsStepped}
 use Rattle.gcs_session.specs.declared.script.Move.TheVariants.{Ask}
-use Rattle.gcs_session.specs.Scripts.{script, Asks, is_some_step}
-use Rattle.gcs_session.specs.Running.{lengths, Grows}
-use Rattle.gcs_session.proofs.Steps.{IsRun, run-step, run-same, asks_belong, asks_once, some_more, none_yet}
+use Rattle.gcs_session.specs.Scripts.{script, Asks}
+use Rattle.gcs_session.specs.Running.{lengths}
+use Rattle.gcs_session.proofs.Steps.{IsRun, run-step, run-same, asks_may, asks_once, some_more, none_yet}
 use Rattle.gcs_session.proofs.answering.run_script.Goals as goal
 
 pub returns-in-Err-call-clause-grows : goal.returns-in-Err-call-clause-grows
@@ -81,7 +81,17 @@ loop-preserved g c =
       few = omega (arith, none, one);
     }
 
+pub call-requires-clause-shard : goal.call-requires-clause-shard
+call-requires-clause-shard g c =
+    let asks : script c.args.request.now c.loop.answers.items ≡ Ask c.in-Ok-Ask.shard c.in-Ok-Ask.command = ap (script c.args.request.now) (sym c.deref.ensures.value) ∙ sym c.in-Ok-Ask.ensures ∙ c.in-Ok-Ask.field-0-is in
+    (asks_may c.args.request.now c.loop.answers.items c.in-Ok-Ask.shard c.in-Ok-Ask.command c.requires asks).within
+
 pub call-requires-clause-belongs : goal.call-requires-clause-belongs
 call-requires-clause-belongs g c =
     let asks : script c.args.request.now c.loop.answers.items ≡ Ask c.in-Ok-Ask.shard c.in-Ok-Ask.command = ap (script c.args.request.now) (sym c.deref.ensures.value) ∙ sym c.in-Ok-Ask.ensures ∙ c.in-Ok-Ask.field-0-is in
-    asks_belong c.args.request.now c.loop.answers.items c.in-Ok-Ask.shard c.in-Ok-Ask.command asks
+    (asks_may c.args.request.now c.loop.answers.items c.in-Ok-Ask.shard c.in-Ok-Ask.command c.requires asks).belongs
+
+pub call-requires-clause-built : goal.call-requires-clause-built
+call-requires-clause-built g c =
+    let asks : script c.args.request.now c.loop.answers.items ≡ Ask c.in-Ok-Ask.shard c.in-Ok-Ask.command = ap (script c.args.request.now) (sym c.deref.ensures.value) ∙ sym c.in-Ok-Ask.ensures ∙ c.in-Ok-Ask.field-0-is in
+    (asks_may c.args.request.now c.loop.answers.items c.in-Ok-Ask.shard c.in-Ok-Ask.command c.requires asks).built

@@ -1,12 +1,11 @@
-use Rattle.std.proofs.Common.{◌≡◌, ◌∙◌, ◌++◌, ◌<◌, ◌≤◌, ◌+◌, ◌⊎◌, inl, inr, ℕ, List, [], Bool, true, false, Option, Some, None, length, take, drop, ap, sym, subst, arith}
+use Rattle.std.proofs.Common.{◌≡◌, ◌∙◌, ◌<◌, ◌+◌, ◌⊎◌, inl, inr, ℕ, List, [], Some, None, length, take, ap, sym, subst, arith}
 use Rattle.std.proofs.lemmas.List.{length-take}
 use Rattle.gcs_io.specs.Told.{Gains}
 use Rattle.gcs_http_in.specs.Usual.{IsAllowed}
 use Rattle.gcs_http_in.proofs.Bounds.{bound_small, bytes_bounded}
 use Rattle.gcs_session.specs.declared.ends.SessionEnd.{SessionEnd}
 use Rattle.gcs_session.specs.declared.ends.SessionEnd.TheVariants.{Cut, Ended, NoMemory, ReadFault, WriteFault}
-use Rattle.gcs_session.specs.declared.session.Session.{Session}
-use Rattle.gcs_session.specs.Along.{AlongTo, IsAlong}
+use Rattle.gcs_session.specs.Along.{AlongTo}
 use Rattle.gcs_session.specs.Connection.{IsServed, Outside}
 use Rattle.gcs_session.specs.Session.{limits_in}
 use Rattle.gcs_session.proofs.Alongs.{along-fault, along-over, along-read, along-read-by, kept-open, read-ended, read-failed, read-some, refilled}

@@ -1,4 +1,4 @@
-use Rattle.std.proofs.Common.{◌≡◌, ◌≤◌, ℕ, [], false, length}
+use Rattle.std.proofs.Common.{◌≡◌, ◌≤◌, [], false, length}
 use Rattle.gcs_session.specs.Along.{IsAlong}
 use Rattle.gcs_session.specs.Connection.{Outside}
 use Rattle.gcs_session.proofs.connection.serve_connection.Given as goal

@@ -1,8 +1,7 @@
-use Rattle.std.proofs.Common.{◌≡◌, ◌∙◌, ◌++◌, ◌<◌, ◌≤◌, ◌+◌, ◌-◌, ℕ, List, Option, length, take, drop, refl, sym, subst, arith}
+use Rattle.std.proofs.Common.{◌≡◌, ◌∙◌, ◌+◌, ◌-◌, ℕ, List, Option, length, take, drop, refl, sym, subst, arith}
 use Rattle.gcs_http_in.specs.declared.limits.Limits.{Limits}
 use Rattle.gcs_http_in.proofs.Bounds.{messages_bounded}
 use Rattle.gcs_http_in.specs.Usual.{IsAllowed}
-use Rattle.gcs_http_in.specs.Stands.{limits_of}
 use Rattle.gcs_session.specs.Along.{IsAlong}
 use Rattle.gcs_session.specs.Connection.{Outside}
 use Rattle.gcs_session.specs.Session.{IsDrained, IsFed, limits_in, waiting_in}

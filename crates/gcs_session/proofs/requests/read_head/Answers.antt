@@ -1,14 +1,17 @@
--- A target whose bucket has no name of a bucket is no upload's.
-use Rattle.std.proofs.Common.{◌≡◌, List, ℕ, Err, ap, refl, subst, ◌∙◌}
-use Rattle.gcs_names.specs.Name.{IsBucketName}
-use Rattle.gcs_session.proofs.Cuts.{same_bucket}
+-- The call that was read is that of the head.
+use Rattle.std.proofs.Common.{◌≡◌, ap₂, subst, ◌∙◌}
+use Rattle.std.proofs.lemmas.Result.{IfOk-weaker}
+use Rattle.gcs_http_in.specs.Head.{Head}
+use Rattle.gcs_route.specs.Calls.{IsCall}
+use Rattle.gcs_session.specs.Calls.{IsCallOf}
+use Rattle.gcs_session.specs.Heads.{IsReadOf, method_by, method_of}
 use Rattle.gcs_session.proofs.requests.read_head.Goals as goal
 
-pub returns-in-Err-Form : goal.returns-in-Err-Form
-returns-in-Err-Form c = λ head method target kind. (
-  refl,
-  λ bucket name upload.
-      let front : List ℕ = c.in-Some.bucket.now in
-      let same : bucket ≡ front = same_bucket head.target front c.in-Some.name.now bucket name (target ∙ c.in-Some.ensures.0) c.in-Some.ensures.1 upload.target in
-      c.in-Err-Form.ensures.form (ap Err c.in-Err-Form.field-0-is) (subst IsBucketName same upload.target.bucket_is),
-)
+pub returns-in-Ok : goal.returns-in-Ok
+returns-in-Ok c =
+    let method = c.method_by-method.result.now in
+    let call = c.in-Ok.call in
+    let called : (head : Head) → IsReadOf head c.args.fields.now → IsCallOf head call = λ head read.
+    let same : method ≡ method_of head = c.method_by-method.ensures ∙ ap₂ method_by read.method read.method_override in
+    subst (λ m. IsCall m head.target call) same (subst (λ t. IsCall method t call) read.target c.in-Ok.ensures.call) in
+    IfOk-weaker c.wanted_of.result _ _ (λ wanted asks head read. asks head read (called head read)) c.wanted_of.ensures

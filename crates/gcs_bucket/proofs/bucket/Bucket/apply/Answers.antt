@@ -1,5 +1,8 @@
-use Rattle.gcs_bucket.proofs.Sound.{sound_after}
+use Rattle.gcs_bucket.proofs.Sound.{ready_when, sound_after}
 use Rattle.gcs_bucket.proofs.bucket.Bucket.apply.Goals as goal
+
+pub apply-requires-clause-ready : goal.apply-requires-clause-ready
+apply-requires-clause-ready c = ready_when _ c.self.invariant (rw (← c.self.view_is) at c.requires.small)
 
 pub invariant_of-self : goal.invariant_of-self
 invariant_of-self c =

@@ -1,24 +1,26 @@
-use Rattle.std.proofs.Common.{◌≡◌, ◌∙◌, [], ◌∷◌, ℕ, List, refl, ap, sym, subst}
+use Rattle.std.proofs.Common.{◌∙◌, [], ◌∷◌, ℕ, List, refl, ap, sym, subst}
+use Rattle.gcs_http_in.specs.declared.limits.Limits.{Limits}
 use Rattle.gcs_session.specs.Coming.{IsComing}
 use Rattle.gcs_session.specs.Replies.{is_closing}
 use Rattle.gcs_session.specs.Running.{lengths}
 use Rattle.gcs_session.specs.Served.{Replies}
-use Rattle.gcs_session.specs.Session.{IsWholeIn}
+use Rattle.gcs_session.specs.Session.{IsWholeIn, limits_in}
 use Rattle.gcs_session.proofs.Endings.{closing-ending}
 use Rattle.gcs_session.proofs.session.Session.answer.Goals as goal
 
 pub returns-clause-answered : goal.returns-clause-answered
 returns-clause-answered g c = λ head content keeps whole.
     let d = g.D.Desk in
-    let coming : IsComing head content keeps c.in-Some.coming = subst (IsWholeIn head content keeps) (sym c.take.ensures.value ∙ c.in-Some.is) whole in
+    let limits : Limits = limits_in c.args.self.now in
+    let coming : IsComing limits head content keeps c.in-Some.coming = subst (IsWholeIn limits head content keeps) (sym c.take.ensures.value ∙ c.in-Some.is) whole in
     let reply = c.respond.ensures.reply in
-    let P : List ℕ → Type 0 = λ text. Replies head content keeps reply.0 (d.seen c.respond.new.desk) (d.caller c.args.desk.now) (lengths (d.mine c.args.desk.now)) text (lengths (d.mine c.respond.new.desk)) in
+    let P : List ℕ → Type 0 = λ text. Replies limits head content keeps reply.0 (d.seen c.respond.new.desk) (d.caller c.args.desk.now) (lengths (d.mine c.args.desk.now)) text (lengths (d.mine c.respond.new.desk)) in
     record {
       moments = reply.0 ∷ [];
       clocked = reply.1;
       grows = c.respond.ensures.grows;
       sound = c.respond.ensures.sound;
-      answers = (reply.0, refl, subst P (sym c.new.ensures) (reply.2 head content keeps coming));
+      answers = (reply.0, refl, subst P (sym c.new.ensures) (reply.2 limits head content keeps coming));
       coming = c.take.ensures.after;
       closed = c.closes-self.ensures ∙ ap (λ form. is_closing form.ending) coming.form ∙ closing-ending head.minor keeps;
     }

@@ -1,7 +1,6 @@
-use Rattle.std.proofs.Common.{◌≡◌, ◌≢◌, ◌∙◌, ◌++◌, [], ◌∷◌, ℕ, List, Bool, true, false, take, refl, ap, sym, subst, arith}
+use Rattle.std.proofs.Common.{◌≡◌, ◌∙◌, ◌++◌, [], take, refl, ap, sym, subst, arith}
 use Rattle.gcs_http_in.specs.Message.{Message, whole, AllKeep}
 use Rattle.gcs_session.specs.declared.session.Session.{Session}
-use Rattle.gcs_session.specs.declared.session.Event.TheVariants as event
 use Rattle.gcs_session.specs.Session.{IsClosedBy, IsGatheredTo, IsReplied, Seen}
 use Rattle.gcs_session.specs.Unsent.{unsent_bytes}
 use Rattle.gcs_session.proofs.Feeding.{answer-some, fed-end, fed-fault, fed-none, fed-quiet, fixed-some}
@@ -47,7 +46,7 @@ returns-in-End-clause-want g c =
     let r = c.answer.ensures.answered k.0.head k.0.content k.1 k.2 in
     record {
       within = c.gather-taken.ensures.within;
-      want = answer-some (whole k.0.head k.0.content k.1) r.moments _ _ _ _ _ r.answers;
+      want = answer-some _ (whole k.0.head k.0.content k.1) r.moments _ _ _ _ _ r.answers;
       whole = λ e. absurd (cc);
     }
 

@@ -1,8 +1,6 @@
-use Rattle.std.proofs.Common.{◌≡◌, ◌∙◌, ◌+◌, ◌-◌, ◌≤◌, ◌<◌, ◌++◌, [], ℕ, List, Some, length, take, drop, refl, ap, sym, subst, arith}
+use Rattle.std.proofs.Common.{◌≡◌, ◌∙◌, ◌-◌, ◌++◌, ℕ, List, Some, length, take, drop, refl, ap, sym, subst, arith}
 use Rattle.std.proofs.lemmas.List.{length-drop}
-use Rattle.gcs_http_in.specs.declared.framer.Framer.{Framer}
 use Rattle.gcs_http_in.specs.declared.state.Taken.TheVariants as taken
-use Rattle.gcs_http_in.specs.Message.{Message}
 use Rattle.gcs_http_in.specs.Stands.{Stands, Told, limits_of}
 use Rattle.gcs_session.specs.declared.session.Session.{Session}
 use Rattle.gcs_session.specs.Session.{IsGatheredTo, IsReading, IsUnderWay}

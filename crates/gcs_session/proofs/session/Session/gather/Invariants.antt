@@ -1,4 +1,4 @@
-use Rattle.std.proofs.Common.{◌≡◌, ◌≤◌, ◌-◌, ◌++◌, [], false, ℕ, List, length, take}
+use Rattle.std.proofs.Common.{◌≡◌, ◌≤◌, ◌-◌, ◌++◌, ℕ, List, length, take}
 use Rattle.gcs_http_in.specs.Message.{Message}
 use Rattle.gcs_http_in.specs.Stands.{limits_of}
 use Rattle.gcs_meaning.specs.Desk.{AreUnmoved}

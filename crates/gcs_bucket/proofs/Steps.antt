@@ -1,0 +1,143 @@
+-- What the commands give, along the steps of the calls on a slot.
+use Rattle.std.proofs.Common.{◌≡◌, ℕ, Bool, List, [], Option, Some, None, Result, Ok, Err, refl, ap, sym, ◌∙◌}
+use Rattle.gcs_meaning.specs.declared.changes.MetaChange.{MetaChange}
+use Rattle.gcs_meaning.specs.declared.changes.SettingsChange.{SettingsChange}
+use Rattle.gcs_meaning.specs.declared.settings.Pre.{Pre}
+use Rattle.gcs_meaning.specs.declared.settings.Meta.{Meta}
+use Rattle.gcs_meaning.specs.declared.settings.Settings.{Settings}
+use Rattle.gcs_meaning.specs.declared.version.BucketRow.{BucketRow}
+use Rattle.gcs_meaning.specs.declared.version.Row.{Row}
+use Rattle.gcs_meaning.specs.declared.version.Expect.{Expect}
+use Rattle.gcs_meaning.specs.declared.reason.Reason.{Reason}
+use Rattle.gcs_meaning.specs.declared.reason.Reason.TheVariants.{NoBucket}
+use Rattle.gcs_meaning.specs.declared.command.Answer.{Answer}
+use Rattle.gcs_meaning.specs.declared.command.Answer.TheVariants.{Refused, Bucket, Object}
+use Rattle.gcs_meaning.specs.Content.{Digested}
+use Rattle.gcs_meaning.specs.Moment.{next_generation}
+use Rattle.gcs_meaning.specs.Slot.{State, Grave, Slot}
+use Rattle.gcs_meaning.specs.Aging.{aged, aged_state, aged_graves}
+use Rattle.gcs_meaning.specs.Buckets.{bucket_row}
+use Rattle.gcs_meaning.specs.BucketChanges.{bucket_change_refusal, bucket_change_state, bucket_change_step, changed_settings}
+use Rattle.gcs_meaning.specs.Choosing.{chosen_row, live_row}
+use Rattle.gcs_meaning.specs.Deletes.{delete_found, delete_on, delete_step}
+use Rattle.gcs_meaning.specs.ObjectChanges.{change_found, change_state, change_step}
+use Rattle.gcs_meaning.specs.Put.{put_refusal, put_state, put_step, new_row}
+use Rattle.gcs_meaning.proofs.Chosen.{chosen_row-aged}
+use Rattle.gcs_bucket.specs.declared.puts.Prepared.{Prepared}
+use Rattle.gcs_bucket.specs.Prepared.{decided}
+
+abbrev pub slot_with : Option State → List Grave → ℕ → ℕ → ℕ → ℕ → Slot
+slot_with alive graves moment object bucket upload = record { alive = alive; graves = graves; last_moment = moment; last_object = object; last_bucket = bucket; next_upload = upload }
+
+-- the bucket isn't alive
+pub bucket_change_dead : (slot : Slot) (t : ℕ) (name : List ℕ) (pre : Pre) (change : SettingsChange) (whole : Bool)
+    → slot.alive ≡ None → bucket_change_step (aged slot t) t name pre change whole ≡ (Refused NoBucket, aged slot t)
+unfolding bucket_change_step
+bucket_change_dead slot t name pre change whole dead = rw dead refl
+
+pub change_dead : (slot : Slot) (t : ℕ) (name : List ℕ) (generation : Option ℕ) (pre : Pre) (change : MetaChange) (whole : Bool)
+    → slot.alive ≡ None → change_step (aged slot t) t name generation pre change whole ≡ (Refused NoBucket, aged slot t)
+unfolding change_step
+change_dead slot t name generation pre change whole dead = rw dead refl
+
+pub delete_dead : (slot : Slot) (t : ℕ) (name : List ℕ) (generation : Option ℕ) (pre : Pre)
+    → slot.alive ≡ None → delete_step slot t name generation pre ≡ (Refused NoBucket, slot)
+unfolding delete_step
+delete_dead slot t name generation pre dead = rw dead refl
+
+pub put_dead : (slot : Slot) (t : ℕ) (name : List ℕ) (pre : Pre) (meta : Meta) (hashed : Digested) (components : Option ℕ) (expect : Expect)
+    → slot.alive ≡ None → put_step (aged slot t) t name pre meta hashed components expect ≡ (Refused NoBucket, aged slot t)
+unfolding put_step
+put_dead slot t name pre meta hashed components expect dead = rw dead refl
+
+-- a change of settings is refused, after ageing
+pub bucket_change_refused : (alive : Option State) (graves kept : List Grave) (m o b u t : ℕ) (name : List ℕ) (pre : Pre) (change : SettingsChange) (whole : Bool) (before state : State) (reason : Reason)
+    → alive ≡ Some before → state ≡ aged_state t before → kept ≡ aged_graves t graves → Some reason ≡ bucket_change_refusal pre whole change state
+    → bucket_change_step (aged (slot_with alive graves m o b u) t) t name pre change whole ≡ (Refused reason, slot_with (Some state) kept t o b u)
+unfolding bucket_change_step
+bucket_change_refused alive graves kept m o b u t name pre change whole before state reason lives is kept-is refused = rw (lives, ← is, ← refused, ← kept-is) refl
+
+-- ageing leaves the settings and what is shown of the bucket
+aged_settings : (t : ℕ) (s : State) → s.settings ≡ (aged_state t s).settings
+unfolding aged_state
+aged_settings t s = refl
+
+aged_shown : (t : ℕ) (name : List ℕ) (s : State) (settings : Settings) → bucket_row name (bucket_change_state s t settings) ≡ bucket_row name (bucket_change_state (aged_state t s) t settings)
+unfolding aged_state
+aged_shown t name s settings = refl
+
+-- the settings are changed
+pub bucket_change_done : (alive : Option State) (graves kept : List Grave) (m o b u t : ℕ) (name : List ℕ) (pre : Pre) (change : SettingsChange) (whole : Bool) (before state after : State) (settings : Settings) (shown : BucketRow)
+    → alive ≡ Some before → state ≡ aged_state t before → kept ≡ aged_graves t graves → None ≡ bucket_change_refusal pre whole change state
+    → settings ≡ changed_settings t whole change before.settings → shown ≡ bucket_row name (bucket_change_state before t (changed_settings t whole change before.settings))
+    → after ≡ bucket_change_state state t settings
+    → bucket_change_step (aged (slot_with alive graves m o b u) t) t name pre change whole ≡ (Bucket shown, slot_with (Some after) kept t o b u)
+unfolding bucket_change_step
+bucket_change_done alive graves kept m o b u t name pre change whole before state after settings shown lives is kept-is allowed settings-is shown-is after-is =
+    let from : before.settings ≡ state.settings = aged_settings t before ∙ ap (λ (s : State). s.settings) (sym is) in
+    let made : settings ≡ changed_settings t whole change state.settings = settings-is ∙ ap (changed_settings t whole change) from in
+    let told : shown ≡ bucket_row name (bucket_change_state state t (changed_settings t whole change state.settings)) =
+    shown-is ∙ ap (λ from. bucket_row name (bucket_change_state before t (changed_settings t whole change from))) from
+    ∙ aged_shown t name before (changed_settings t whole change state.settings)
+    ∙ ap (λ s. bucket_row name (bucket_change_state s t (changed_settings t whole change state.settings))) (sym is) in
+    rw (lives, ← is, ← allowed, ← kept-is, after-is, told, made) refl
+
+-- a change of a version is decided before ageing
+aged_found : (t : ℕ) (name : List ℕ) (generation : Option ℕ) (s : State) → chosen_row name generation (aged_state t s).rows ≡ chosen_row name generation s.rows
+unfolding aged_state
+aged_found t name generation s = chosen_row-aged t name generation s.rows
+
+change_decided : (alive : Option State) (graves kept : List Grave) (m o b u t : ℕ) (name : List ℕ) (generation : Option ℕ) (pre : Pre) (change : MetaChange) (whole : Bool) (before state : State) (decision : Result Prepared Reason)
+    → alive ≡ Some before → state ≡ aged_state t before → kept ≡ aged_graves t graves
+    → ((slot : Slot) (s : State) → s.settings ≡ before.settings → change_found (chosen_row name generation before.rows) slot s t name generation pre change whole ≡ decided decision slot s name generation)
+    → change_step (aged (slot_with alive graves m o b u) t) t name generation pre change whole ≡ decided decision (slot_with (Some state) kept t o b u) state name generation
+unfolding change_step
+change_decided alive graves kept m o b u t name generation pre change whole before state decision lives is kept-is found =
+    let from : state.settings ≡ before.settings = ap (λ (s : State). s.settings) is ∙ sym (aged_settings t before) in
+    let same : chosen_row name generation state.rows ≡ chosen_row name generation before.rows = ap (λ (s : State). chosen_row name generation s.rows) is ∙ aged_found t name generation before in
+    rw (lives, ← is, ← kept-is, same) (found (slot_with (Some state) kept t o b u) state from)
+
+pub change_refused : (alive : Option State) (graves kept : List Grave) (m o b u t : ℕ) (name : List ℕ) (generation : Option ℕ) (pre : Pre) (change : MetaChange) (whole : Bool) (before state : State) (decision : Result Prepared Reason) (reason : Reason)
+    → alive ≡ Some before → state ≡ aged_state t before → kept ≡ aged_graves t graves
+    → ((slot : Slot) (s : State) → s.settings ≡ before.settings → change_found (chosen_row name generation before.rows) slot s t name generation pre change whole ≡ decided decision slot s name generation)
+    → decision ≡ Err reason
+    → change_step (aged (slot_with alive graves m o b u) t) t name generation pre change whole ≡ (Refused reason, slot_with (Some state) kept t o b u)
+change_refused alive graves kept m o b u t name generation pre change whole before state decision reason lives is kept-is found refused =
+    change_decided alive graves kept m o b u t name generation pre change whole before state decision lives is kept-is found
+    ∙ ap (λ decision. decided decision (slot_with (Some state) kept t o b u) state name generation) refused
+
+pub change_made : (alive : Option State) (graves kept : List Grave) (m o b u t : ℕ) (name : List ℕ) (generation : Option ℕ) (pre : Pre) (change : MetaChange) (whole : Bool) (before state after : State) (decision : Result Prepared Reason) (made : Prepared)
+    → alive ≡ Some before → state ≡ aged_state t before → kept ≡ aged_graves t graves
+    → ((slot : Slot) (s : State) → s.settings ≡ before.settings → change_found (chosen_row name generation before.rows) slot s t name generation pre change whole ≡ decided decision slot s name generation)
+    → decision ≡ Ok made → after ≡ change_state state name generation made.row
+    → change_step (aged (slot_with alive graves m o b u) t) t name generation pre change whole ≡ (Object made.shown made.settings, slot_with (Some after) kept t o b u)
+change_made alive graves kept m o b u t name generation pre change whole before state after decision made lives is kept-is found allowed after-is =
+    change_decided alive graves kept m o b u t name generation pre change whole before state decision lives is kept-is found
+    ∙ ap (λ decision. decided decision (slot_with (Some state) kept t o b u) state name generation) allowed
+    ∙ ap (λ s. (Object made.shown made.settings, slot_with (Some s) kept t o b u)) (sym after-is)
+
+-- a deletion, on a slot that is aged
+pub delete_done : (slot : Slot) (t : ℕ) (name : List ℕ) (generation : Option ℕ) (pre : Pre) (before after : State) (answer : Answer)
+    → slot.alive ≡ Some before
+    → ((any : Slot) → any.alive ≡ Some before → delete_found (chosen_row name generation before.rows) any before t name generation pre ≡ (answer, record any { alive = Some after }))
+    → delete_step slot t name generation pre ≡ (answer, record slot { alive = Some after })
+unfolding delete_step
+delete_done slot t name generation pre before after answer lives found =
+    ap (λ alive. delete_on alive slot t name generation pre) lives ∙ found slot lives
+
+-- a put is refused, after ageing
+pub put_refused : (alive : Option State) (graves kept : List Grave) (m o b u t : ℕ) (name : List ℕ) (pre : Pre) (meta : Meta) (hashed : Digested) (components : Option ℕ) (expect : Expect) (before state : State) (reason : Reason)
+    → alive ≡ Some before → state ≡ aged_state t before → kept ≡ aged_graves t graves → Some reason ≡ put_refusal state.settings t pre expect hashed (live_row name state.rows)
+    → put_step (aged (slot_with alive graves m o b u) t) t name pre meta hashed components expect ≡ (Refused reason, slot_with (Some state) kept t o b u)
+unfolding put_step
+put_refused alive graves kept m o b u t name pre meta hashed components expect before state reason lives is kept-is refused = rw (lives, ← is, ← refused, ← kept-is) refl
+
+-- the version is made
+pub put_done : (alive : Option State) (graves kept : List Grave) (m o b u t g : ℕ) (name : List ℕ) (pre : Pre) (meta : Meta) (hashed : Digested) (components : Option ℕ) (expect : Expect) (before state after : State) (row shown : Row) (from settings : Settings)
+    → alive ≡ Some before → state ≡ aged_state t before → kept ≡ aged_graves t graves → from ≡ state.settings → g ≡ next_generation t o
+    → None ≡ put_refusal state.settings t pre expect hashed (live_row name state.rows) → row ≡ new_row from t g name meta hashed components
+    → shown ≡ row → settings ≡ from → after ≡ put_state state t row
+    → put_step (aged (slot_with alive graves m o b u) t) t name pre meta hashed components expect ≡ (Object shown settings, slot_with (Some after) kept t g b u)
+unfolding put_step
+put_done alive graves kept m o b u t g name pre meta hashed components expect before state after row shown from settings lives is kept-is from-is g-is allowed row-is shown-is settings-is after-is =
+    rw (lives, ← is, ← allowed, ← kept-is, after-is, settings-is, shown-is, row-is, from-is, g-is) refl

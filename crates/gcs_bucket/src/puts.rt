@@ -1,0 +1,168 @@
+//! A new version of a name in a bucket that is alive.
+ghost use Rattle.std.specs.Prelude.{◌≡◌, ◌<◌, ◌^◌, IfOk, OnOk, Some, None, unwrap_or, vec_len, vec_capacity};
+ghost use Rattle.std.specs.Option.{option_copied};
+ghost use Rattle.gcs_meaning.specs.Choosing.{live_row};
+ghost use Rattle.gcs_meaning.specs.Fit.{IfThere};
+ghost use Rattle.gcs_meaning.specs.Policy.{AreInLimits};
+ghost use Rattle.gcs_meaning.specs.Put.{generation_of, kept_meta, metageneration_of, new_row, put_refusal, put_state, replaced_refusal};
+ghost use Rattle.gcs_bucket.specs.Living.{AreEarly, IsEarly, state_of};
+ghost use Rattle.gcs_bucket.specs.Prepared.{Makes};
+
+use crate::choosing::find_live;
+use crate::living::Living;
+use crate::refusals::{differing_digest, failed_precondition, kept_version, too_large};
+use crate::rows::{add_row, retire_row};
+use gcs_meaning::{Copied, Expect, Hashed, Kind, Meta, Name, Pre, Reason, Row, Settings, Text};
+use gcs_policy::retire;
+use std::alloc::AllocError;
+
+/// What a version that is made needs of memory, taken before anything is changed: the version, its
+/// copy for the answer, and the settings that are shown with it.
+#[derive(Drop)]
+pub struct Prepared {
+    pub row: Row,
+    pub shown: Row,
+    pub settings: Settings,
+}
+
+impl Living {
+    /// Takes the memory of a put, and changes nothing that is seen. `Err`: no memory.
+    pub fn prepare_put(
+        &mut self,
+        moment: u64,
+        generation: u64,
+        name: &Name,
+        meta: &Meta,
+        hashed: &Hashed,
+        components: Option<u32>,
+    ) -> Result<Prepared, AllocError>
+        ensures state { state_of self.new ≡ state_of self.old }
+        ensures settings { self.new.settings ≡ self.old.settings }
+        ensures room { OnOk result (vec_len self.new.rows < vec_capacity self.new.rows) }
+        ensures made { IfOk result (λ made. Makes made (state_of self.old).settings (new_row (state_of self.old).settings moment generation name.now meta.now hashed.now components)) }
+    {
+        self.rows.reserve(1)?;
+        let row = make_row(
+            &self.settings,
+            moment,
+            generation,
+            name,
+            meta,
+            hashed,
+            components,
+        )?;
+        let shown = row.copy()?;
+        let settings = self.settings.copy()?;
+        Ok(Prepared {
+            row,
+            shown,
+            settings,
+        })
+    }
+
+    /// The first test of a put at `moment` that fails.
+    #[tactic(auto, unfolding(gcs_meaning::specs::Put::put_refusal))]
+    pub fn put_refusal(
+        &self,
+        moment: u64,
+        name: &Name,
+        pre: &Pre,
+        expect: &Expect,
+        hashed: &Hashed,
+    ) -> Option<Reason>
+        requires limits { AreInLimits self.now.settings }
+        requires early { AreEarly self.now.rows.items }
+        requires moment { moment < 2 ^ 62 }
+        ensures { result ≡ put_refusal self.now.settings moment pre.now expect.now hashed.now (live_row name.now self.now.rows.items) }
+    {
+        let live = find_live(&self.rows, name);
+        let (generation, metageneration) = numbers(live);
+        let kept = kept_live(&self.settings, moment, live);
+        failed_precondition(pre, generation, metageneration)
+            .or(kept)
+            .or_else(|| differing_digest(expect, hashed))
+            .or_else(|| too_large(hashed.content().len()))
+    }
+
+    /// Retires the live version of the row's name, and adds the row. There is room for it.
+    #[tactic(auto, unfolding(gcs_meaning::specs::Put::put_state))]
+    pub fn put(&mut self, moment: u64, row: Row)
+        requires room { vec_len self.old.rows < vec_capacity self.old.rows }
+        requires limits { AreInLimits self.old.settings }
+        requires moment { moment < 2 ^ 62 }
+        ensures state { state_of self.new ≡ put_state (state_of self.old) moment row }
+        ensures settings { self.new.settings ≡ self.old.settings }
+    {
+        let to = retire(&self.settings, moment, false);
+        retire_row(&mut self.rows, to, moment, &row.name, None);
+        add_row(&mut self.rows, row);
+    }
+}
+
+fn make_row(
+    settings: &Settings,
+    moment: u64,
+    generation: u64,
+    name: &Name,
+    meta: &Meta,
+    hashed: &Hashed,
+    components: Option<u32>,
+) -> Result<Row, AllocError>
+    ensures { IfOk result (λ row. row ≡ new_row settings.now moment generation name.now meta.now hashed.now components) }
+{
+    Ok(Row {
+        name: name.copy()?,
+        generation,
+        metageneration: 1,
+        hashed: hashed.copy()?,
+        components,
+        meta: keep_meta(settings, meta)?,
+        created: moment,
+        updated: moment,
+        retention_start: moment,
+        kind: Kind::Live,
+    })
+}
+
+// The hold and the class that aren't given are the bucket's.
+fn keep_meta(settings: &Settings, meta: &Meta) -> Result<Meta, AllocError>
+    ensures { IfOk result (λ made. made ≡ kept_meta settings.now meta.now) }
+{
+    let mut made = meta.copy()?;
+    made.event_hold = Some(meta.event_hold.unwrap_or(settings.default_event_hold));
+    made.storage_class = Some(class_of(&meta.storage_class, &settings.storage_class)?);
+    Ok(made)
+}
+
+fn class_of(given: &Option<Text>, usual: &Text) -> Result<Text, AllocError>
+    ensures { IfOk result (λ made. made ≡ unwrap_or given.now usual.now) }
+{
+    match given {
+        Some(class) => class.copy(),
+        None => usual.copy(),
+    }
+}
+
+// The numbers of a version, 0 and 0 where there is none.
+fn numbers(row: Option<&Row>) -> (u64, u64)
+    ensures generation { result.0 ≡ generation_of (option_copied row.entry) }
+    ensures metageneration { result.1 ≡ metageneration_of (option_copied row.entry) }
+{
+    match row {
+        Some(row) => (row.generation, row.metageneration),
+        None => (0, 0),
+    }
+}
+
+// What keeps the live version, where there is one, from being replaced.
+fn kept_live(settings: &Settings, moment: u64, live: Option<&Row>) -> Option<Reason>
+    requires limits { AreInLimits settings.now }
+    requires early { IfThere (option_copied live) IsEarly }
+    requires moment { moment < 2 ^ 62 }
+    ensures { result ≡ replaced_refusal settings.now moment (option_copied live.entry) }
+{
+    match live {
+        Some(row) => kept_version(settings, moment, false, row),
+        None => None,
+    }
+}

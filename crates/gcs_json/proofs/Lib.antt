@@ -1,0 +1,9 @@
+pub mod Bodies
+pub mod BucketNames
+pub mod Built
+pub mod Faults
+pub mod Kept
+pub mod Limits
+pub mod NumberLemmas
+pub mod PairLemmas
+pub mod Readings

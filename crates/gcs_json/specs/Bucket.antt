@@ -1,0 +1,108 @@
+-- The body of a bucket: its fields in byte order of their names (Cloud Storage JSON API, "Buckets").
+use Rattle.std.specs.Prelude.{◌≡◌, ℕ, ◌==◌, List, [], ◌∷◌, Bool, true, false, Option, Some, None, Result, Ok, Err, if◌then◌else◌, codes}
+use Rattle.serde_json.specs.Data.{Data}
+use Rattle.gcs_meaning.specs.declared.changes.Set.TheVariants.{Keep}
+use Rattle.gcs_meaning.specs.declared.changes.SettingsChange.{SettingsChange}
+use Rattle.gcs_meaning.specs.declared.reason.Key.{Key}
+use Rattle.gcs_meaning.specs.declared.reason.Key.TheVariants as key
+use Rattle.gcs_json.specs.declared.fault.BodyFault.{BodyFault}
+use Rattle.gcs_json.specs.declared.fault.BodyFault.TheVariants.{NotBuilt}
+use Rattle.gcs_json.specs.declared.bucket.BucketBody.{BucketBody}
+use Rattle.gcs_json.specs.declared.words.Bytes.TheVariants.{Class, Place}
+use Rattle.gcs_json.specs.Fields.{Changed, body_of, names_any, field_of, given_of, given_if, needed, and_then}
+use Rattle.gcs_json.specs.Kinds.{flag, inside, text_where, compact_within, number_within}
+use Rattle.gcs_json.specs.Pairs.{Pair, pairs_within}
+use Rattle.gcs_json.specs.Words.{is_word, is_bucket_name}
+
+abbrev pub default_event_hold_in : Bool → Data → Changed Bool
+default_event_hold_in removes d = field_of removes key.DefaultEventBasedHold flag d
+
+-- at most 8,192 bytes together
+abbrev pub labels_in : Bool → Data → Changed (List Pair)
+labels_in removes d = field_of removes key.Labels (pairs_within removes (Some 8192)) d
+
+abbrev pub lifecycle_in : Bool → Data → Changed (List ℕ)
+lifecycle_in removes d = field_of removes key.Lifecycle (compact_within 65536) d
+
+-- an insert alone reads the location
+abbrev pub location_in : Bool → Data → Result (Option (List ℕ)) BodyFault
+location_in inserts d = given_if inserts key.Location (text_where (is_word 1 64 Place)) d
+
+-- an insert alone reads the name, and must have one
+abbrev pub name_in : Bool → Data → Result (Option (List ℕ)) BodyFault
+name_in inserts d = if inserts then and_then (given_of key.Name (text_where is_bucket_name) d) (needed key.Name) else Ok None
+
+-- 1 to 3,155,760,000 seconds
+abbrev pub retention_period_in : Bool → Data → Changed ℕ
+retention_period_in removes d =
+    field_of removes key.RetentionPolicy (inside (codes "retentionPeriod") (number_within false 1 3_155_760_000)) d
+
+-- 0, or 604,800 to 7,776,000 seconds
+abbrev pub soft_seconds_in : Bool → Data → Changed ℕ
+soft_seconds_in removes d =
+    field_of removes key.SoftDeletePolicy (inside (codes "retentionDurationSeconds") (number_within true 604_800 7_776_000)) d
+
+abbrev pub storage_class_in : Bool → Data → Changed (List ℕ)
+storage_class_in removes d = field_of removes key.StorageClass (text_where (is_word 1 64 Class)) d
+
+abbrev pub versioned_in : Bool → Data → Changed Bool
+versioned_in removes d = field_of removes key.Versioning (inside (codes "enabled") flag) d
+
+-- what the object says
+unfoldable pub bucket_in : Bool → Bool → Data → Result BucketBody BodyFault
+bucket_in inserts removes d =
+    and_then (default_event_hold_in removes d) (λ default_event_hold.
+    and_then (labels_in removes d) (λ labels.
+    and_then (lifecycle_in removes d) (λ lifecycle.
+    and_then (location_in inserts d) (λ location.
+    and_then (name_in inserts d) (λ name.
+    and_then (retention_period_in removes d) (λ retention_period.
+    and_then (soft_seconds_in removes d) (λ soft_seconds.
+    and_then (storage_class_in removes d) (λ storage_class.
+    and_then (versioned_in removes d) (λ versioned.
+    Ok record {
+      name = name;
+      location = location;
+      change = record {
+        labels = labels;
+        lifecycle = lifecycle;
+        versioned = versioned;
+        default_event_hold = default_event_hold;
+        retention_period = retention_period;
+        soft_seconds = soft_seconds;
+        storage_class = storage_class;
+      };
+    })))))))))
+
+-- the fields that are not built
+abbrev pub unbuilt_fields : List Key
+unbuilt_fields =
+    key.DefaultEventBasedHold
+    ∷ key.RetentionPolicy
+    ∷ key.SoftDeletePolicy
+    ∷ key.Versioning
+    ∷ []
+
+-- the same, where the object names none of those
+unfoldable pub built_bucket : Bool → Bool → Data → Result BucketBody BodyFault
+built_bucket inserts removes d = if names_any unbuilt_fields d then Err NotBuilt else bucket_in inserts removes d
+
+-- what the body says on a row of the table of paths: 1 inserts, 4 patches, 5 replaces
+unfoldable pub bucket_of : ℕ → List ℕ → Result BucketBody BodyFault
+bucket_of row text = and_then (body_of text) (built_bucket (row == 1) (row == 4))
+
+-- the change keeps what the field of that name sets
+abbrev pub IsKept : SettingsChange → Key → Type 0
+IsKept change key.DefaultEventBasedHold = change.default_event_hold ≡ Keep
+IsKept change key.Labels = change.labels ≡ Keep
+IsKept change key.Lifecycle = change.lifecycle ≡ Keep
+IsKept change key.RetentionPolicy = change.retention_period ≡ Keep
+IsKept change key.SoftDeletePolicy = change.soft_seconds ≡ Keep
+IsKept change key.StorageClass = change.storage_class ≡ Keep
+IsKept change key.Versioning = change.versioned ≡ Keep
+IsKept change _ = Unit {0}
+
+-- and so of each of these fields
+abbrev pub AreKept : SettingsChange → List Key → Type 0
+AreKept change [] = Unit {0}
+AreKept change (key ∷ keys) = IsKept change key × AreKept change keys

@@ -1,0 +1,9 @@
+pub mod Fields
+pub mod Words
+pub mod Pairs
+pub mod Kinds
+pub mod Bucket
+pub mod Object
+pub mod Order
+pub mod BucketLaws
+pub mod ObjectLaws

@@ -1,0 +1,7 @@
+pub mod Cutting
+pub mod Firsts
+pub mod OneCall
+pub mod OneReason
+pub mod Queries
+pub mod Rows
+pub mod ValueLemmas

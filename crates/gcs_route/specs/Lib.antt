@@ -1,0 +1,9 @@
+pub mod Built
+pub mod Calls
+pub mod Filling
+pub mod Finding
+pub mod Params
+pub mod Paths
+pub mod Pieces
+pub mod Refusals
+pub mod Table

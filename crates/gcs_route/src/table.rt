@@ -1,0 +1,183 @@
+//! The rows of the interface: method, path, and parameters in the order in which they are tested.
+ghost use Rattle.std.specs.Prelude.{◌≡◌, map};
+ghost use Rattle.gcs_route.specs.Params.{key_of, source_key_of};
+ghost use Rattle.gcs_route.specs.Table.{routes, route_of};
+
+use Condition::{GenerationIs, GenerationNot, MetagenerationIs, MetagenerationNot};
+use Param::*;
+use gcs_meaning::Key;
+
+/// A precondition: on the generation or the metageneration, that it is a number or that it isn't.
+///
+/// Source: Cloud Storage, "Request preconditions".
+#[derive(Clone, Copy, Debug, PartialEq, Eq)]
+pub(crate) enum Condition {
+    GenerationIs,
+    GenerationNot,
+    MetagenerationIs,
+    MetagenerationNot,
+}
+
+impl Condition {
+    /// The key of the precondition.
+    pub(crate) fn key(self) -> Key
+        ensures { result ≡ key_of self }
+    {
+        match self {
+            GenerationIs => Key::IfGenerationMatch,
+            GenerationNot => Key::IfGenerationNotMatch,
+            MetagenerationIs => Key::IfMetagenerationMatch,
+            MetagenerationNot => Key::IfMetagenerationNotMatch,
+        }
+    }
+
+    /// The key of the precondition on the source of a copy.
+    pub(crate) fn source_key(self) -> Key
+        ensures { result ≡ source_key_of self }
+    {
+        match self {
+            GenerationIs => Key::IfSourceGenerationMatch,
+            GenerationNot => Key::IfSourceGenerationNotMatch,
+            MetagenerationIs => Key::IfSourceMetagenerationMatch,
+            MetagenerationNot => Key::IfSourceMetagenerationNotMatch,
+        }
+    }
+}
+
+/// A parameter of a query. Where a key has other rules on other rows, it has a parameter for each.
+#[derive(Clone, Copy, Debug, PartialEq, Eq)]
+pub(crate) enum Param {
+    Alt,
+    /// `softDeleted`, with which media are not to be had.
+    SoftOfGet,
+    /// `generation`, without which no soft-deleted version is chosen.
+    GenerationOfGet,
+    Generation,
+    If(Condition),
+    UploadType,
+    Name,
+    ContentEncoding,
+    Prefix,
+    Delimiter,
+    StartOffset,
+    EndOffset,
+    IncludeTrailingDelimiter,
+    Versions,
+    /// `softDeleted`, which does not go with `versions`.
+    SoftOfList,
+    MaxResults,
+    PageToken,
+    /// `alt`, which is tested, though a download is media whatever it says.
+    AltOfDownload,
+    /// `softDeleted`, which may not be true.
+    SoftOfDownload,
+    /// `generation`, which is required.
+    NeededGeneration,
+    /// `ifMetagenerationMatch`, which is required.
+    NeededMetageneration,
+    SourceGeneration,
+    IfSource(Condition),
+    MaxBytesRewrittenPerCall,
+    RewriteToken,
+    UploadId,
+}
+
+/// A row of the table. In its path `{bucket}` and `{object}` stand for names.
+#[derive(Clone, Copy)]
+pub(crate) struct Route {
+    pub(crate) row: u32,
+    pub(crate) method: &'static str,
+    pub(crate) path: &'static [&'static str],
+    pub(crate) params: &'static [Param],
+}
+
+// Cloud Storage JSON API, the HTTP requests of "Buckets" and "Objects".
+#[rattlefmt::skip]
+static ROUTES: [Route; 21] = [
+    Route { row: 1, method: "POST",
+        path: &["", "storage", "v1", "b"],
+        params: &[] },
+    Route { row: 2, method: "GET",
+        path: &["", "storage", "v1", "b"],
+        params: &[Prefix, MaxResults, PageToken] },
+    Route { row: 3, method: "GET",
+        path: &["", "storage", "v1", "b", "{bucket}"],
+        params: &[If(MetagenerationIs), If(MetagenerationNot)] },
+    Route { row: 4, method: "PATCH",
+        path: &["", "storage", "v1", "b", "{bucket}"],
+        params: &[If(MetagenerationIs), If(MetagenerationNot)] },
+    Route { row: 5, method: "PUT",
+        path: &["", "storage", "v1", "b", "{bucket}"],
+        params: &[If(MetagenerationIs), If(MetagenerationNot)] },
+    Route { row: 6, method: "DELETE",
+        path: &["", "storage", "v1", "b", "{bucket}"],
+        params: &[If(MetagenerationIs), If(MetagenerationNot)] },
+    Route { row: 7, method: "POST",
+        path: &["", "storage", "v1", "b", "{bucket}", "lockRetentionPolicy"],
+        params: &[NeededMetageneration] },
+    Route { row: 8, method: "POST",
+        path: &["", "storage", "v1", "b", "{bucket}", "restore"],
+        params: &[NeededGeneration] },
+    Route { row: 9, method: "GET",
+        path: &["", "storage", "v1", "b", "{bucket}", "o"],
+        params: &[Prefix, Delimiter, StartOffset, EndOffset, IncludeTrailingDelimiter, Versions,
+            SoftOfList, MaxResults, PageToken] },
+    Route { row: 10, method: "GET",
+        path: &["", "storage", "v1", "b", "{bucket}", "o", "{object}"],
+        params: &[Alt, SoftOfGet, GenerationOfGet, If(GenerationIs), If(GenerationNot),
+            If(MetagenerationIs), If(MetagenerationNot)] },
+    Route { row: 11, method: "PATCH",
+        path: &["", "storage", "v1", "b", "{bucket}", "o", "{object}"],
+        params: &[Generation, If(GenerationIs), If(GenerationNot), If(MetagenerationIs),
+            If(MetagenerationNot)] },
+    Route { row: 12, method: "PUT",
+        path: &["", "storage", "v1", "b", "{bucket}", "o", "{object}"],
+        params: &[Generation, If(GenerationIs), If(GenerationNot), If(MetagenerationIs),
+            If(MetagenerationNot)] },
+    Route { row: 13, method: "DELETE",
+        path: &["", "storage", "v1", "b", "{bucket}", "o", "{object}"],
+        params: &[Generation, If(GenerationIs), If(GenerationNot), If(MetagenerationIs),
+            If(MetagenerationNot)] },
+    Route { row: 14, method: "POST",
+        path: &["", "storage", "v1", "b", "{bucket}", "o", "{object}", "compose"],
+        params: &[If(GenerationIs), If(MetagenerationIs)] },
+    Route { row: 15, method: "POST",
+        path: &["", "storage", "v1", "b", "{bucket}", "o", "{object}", "rewriteTo", "b", "{bucket}",
+            "o", "{object}"],
+        params: &[SourceGeneration, IfSource(GenerationIs), IfSource(GenerationNot),
+            IfSource(MetagenerationIs), IfSource(MetagenerationNot), If(GenerationIs),
+            If(GenerationNot), If(MetagenerationIs), If(MetagenerationNot),
+            MaxBytesRewrittenPerCall, RewriteToken] },
+    Route { row: 16, method: "POST",
+        path: &["", "storage", "v1", "b", "{bucket}", "o", "{object}", "copyTo", "b", "{bucket}",
+            "o", "{object}"],
+        params: &[SourceGeneration, IfSource(GenerationIs), IfSource(GenerationNot),
+            IfSource(MetagenerationIs), IfSource(MetagenerationNot), If(GenerationIs),
+            If(GenerationNot), If(MetagenerationIs), If(MetagenerationNot)] },
+    Route { row: 17, method: "POST",
+        path: &["", "storage", "v1", "b", "{bucket}", "o", "{object}", "restore"],
+        params: &[NeededGeneration, If(GenerationIs), If(GenerationNot), If(MetagenerationIs),
+            If(MetagenerationNot)] },
+    Route { row: 18, method: "POST",
+        path: &["", "upload", "storage", "v1", "b", "{bucket}", "o"],
+        params: &[UploadType, Name, ContentEncoding, If(GenerationIs), If(GenerationNot),
+            If(MetagenerationIs), If(MetagenerationNot)] },
+    Route { row: 19, method: "PUT",
+        path: &["", "upload", "storage", "v1", "b", "{bucket}", "o"],
+        params: &[UploadId] },
+    Route { row: 20, method: "DELETE",
+        path: &["", "upload", "storage", "v1", "b", "{bucket}", "o"],
+        params: &[UploadId] },
+    Route { row: 21, method: "GET",
+        path: &["", "download", "storage", "v1", "b", "{bucket}", "o", "{object}"],
+        params: &[AltOfDownload, SoftOfDownload, GenerationOfGet, If(GenerationIs),
+            If(GenerationNot), If(MetagenerationIs), If(MetagenerationNot)] },
+];
+
+/// The rows, in their order.
+#[tactic(auto, unfolding(crate::specs::Table::routes))]
+pub(crate) fn all_routes() -> &'static [Route]
+    ensures { map route_of result.now ≡ routes }
+{
+    &ROUTES
+}

@@ -1,0 +1,11 @@
+-- No bytes have come.
+use Rattle.std.proofs.Common.{◌++◌, ap, ap₂, sym, ◌∙◌}
+use Rattle.gcs_chunks.specs.Content.{bytes_of}
+use Rattle.gcs_chunks.proofs.Words.{bytes_of-no_content}
+use Rattle.gcs_session.proofs.body.Kept.new.Goals as goal
+
+pub returns : goal.returns
+returns c = record {
+  bytes_are = sym (ap₂ (λ a b. a ++ b) (ap bytes_of c.empty.ensures ∙ bytes_of-no_content) c.new-2.ensures);
+  digested = c.new.ensures;
+}

@@ -1,0 +1,72 @@
+//! What JSON bodies give.
+ghost use Rattle.std.specs.Prelude.{◌≡◌, ℕ, List, IfOk, IfErr, Ok, Some, None, true};
+ghost use Rattle.gcs_json.specs.Bucket.{bucket_of};
+ghost use Rattle.gcs_session.specs.Bodies.{is_text, IsGathered};
+ghost use Rattle.gcs_session.specs.Calls.{body_refusal, json_refusal, said_fault, IsSaidBy};
+ghost use Rattle.gcs_session.specs.Scripts.{IsGivenInLimits};
+
+use crate::body::Body;
+use crate::bounded::TextFault;
+use crate::requests::Given;
+use gcs_json::{BodyFault, read_bucket_body};
+use gcs_meaning::{Key, Reason};
+use std::alloc::Global;
+
+/// Why a message gives nothing.
+#[derive(Clone, Copy, Debug, PartialEq, Eq)]
+pub enum GivenFault {
+    Refused(Reason),
+    NoMemory,
+}
+
+/// What a JSON body gives on a row of the table of paths. It is tested in this order: its length, whether it is encoded,
+/// and then what it says.
+pub fn read_given(alloc: Global, row: u32, encoded: bool, body: Body) -> Result<Given, GivenFault>
+    requires { is_text body ≡ true }
+    ensures given { IfOk result (λ given. (most : ℕ) (bytes : List ℕ) → IsGathered most body bytes
+        → (json_refusal most encoded row bytes ≡ None) × IsSaidBy row bytes given) }
+    ensures refused { IfErr result (λ fault. (reason : Reason) → fault ≡ GivenFault.Refused reason
+        → (most : ℕ) (bytes : List ℕ) → IsGathered most body bytes → json_refusal most encoded row bytes ≡ Some reason) }
+    ensures limits { IfOk result (λ given. IsGivenInLimits given) }
+{
+    match body.into_text() {
+        Ok(text) if encoded => {
+            drop(text);
+            Err(invalid(Key::HeadContentEncoding))
+        }
+        Ok(text) => read_bucket(alloc, row, &text),
+        Err(TextFault::TooLong) => Err(GivenFault::Refused(Reason::TooLong)),
+        Err(TextFault::NoMemory) => Err(GivenFault::NoMemory),
+    }
+}
+
+fn invalid(key: Key) -> GivenFault
+    ensures { result ≡ GivenFault.Refused (Reason.Invalid key) }
+{
+    GivenFault::Refused(Reason::Invalid { key })
+}
+
+// What the body of a bucket says.
+fn read_bucket(alloc: Global, row: u32, text: &[u8]) -> Result<Given, GivenFault>
+    ensures given { IfOk result (λ given. (body_refusal row text.now ≡ None) × IsSaidBy row text.now given) }
+    ensures refused { IfErr result (λ fault. (reason : Reason) → fault ≡ GivenFault.Refused reason → body_refusal row text.now ≡ Some reason) }
+    ensures limits { IfOk result (λ given. IsGivenInLimits given) }
+{
+    match read_bucket_body(alloc, row, text) {
+        Ok(body) => Ok(Given::Bucket(body)),
+        Err(fault) => Err(fault_of(fault)),
+    }
+}
+
+// The refusal of a body for its fault.
+fn fault_of(fault: BodyFault) -> GivenFault
+    ensures { (reason : Reason) → result ≡ GivenFault.Refused reason → said_fault fault ≡ Some reason }
+{
+    match fault {
+        BodyFault::NotJson => invalid(Key::Body),
+        BodyFault::NotBuilt => GivenFault::Refused(Reason::NotBuilt),
+        BodyFault::BadField { name } => invalid(name),
+        BodyFault::Missing { name } => GivenFault::Refused(Reason::Required { key: name }),
+        BodyFault::NoMemory => GivenFault::NoMemory,
+    }
+}
