@@ -4,7 +4,7 @@ use Rattle.std.specs.Prelude.{◌==◌, ◌&&◌, if◌then◌else◌}
 use Rattle.std.specs.List.{AllByRecursion}
 use Rattle.gcs_meaning.specs.declared.command.Answer.{Answer}
 use Rattle.gcs_meaning.specs.declared.command.Command.{Command}
-use Rattle.gcs_meaning.specs.declared.command.Command.TheVariants.{BucketInsert, BucketGet, BucketChange, BucketDelete, Get, Change, Delete, Put}
+use Rattle.gcs_meaning.specs.declared.command.Command.TheVariants.{BucketInsert, BucketList, BucketGet, BucketChange, BucketDelete, List as Listing, Get, Change, Delete, Put}
 use Rattle.gcs_meaning.specs.declared.command.Entry.{Entry}
 use Rattle.gcs_meaning.specs.Moment.{effective_moment}
 use Rattle.gcs_meaning.specs.Slot.{Slot, fresh_slot}
@@ -12,7 +12,7 @@ use Rattle.gcs_meaning.specs.Aging.{aged}
 use Rattle.gcs_meaning.specs.Step.{IsBuilt, step, command_step}
 use Rattle.gcs_meaning.specs.History.{Slots, first_step, slot_step, slot_of, shard_step, replay_from, replay, is_entry, answer_from, answer_at, AreDistinct}
 use Rattle.gcs_meaning.specs.Laws.{is_answer_to, AnswersFit}
-use Rattle.gcs_meaning.proofs.Cases.{insert_cases, bucket_get_cases, bucket_change_cases, bucket_delete_cases, get_cases, change_cases, delete_cases, put_cases}
+use Rattle.gcs_meaning.proofs.Cases.{insert_cases, bucket_get_cases, bucket_change_cases, bucket_delete_cases, list_cases, get_cases, change_cases, delete_cases, put_cases}
 
 -- what a command answers is of its kind
 abbrev IsKind : Command → Answer × Slot → Type 0
@@ -20,10 +20,12 @@ IsKind command done = is_answer_to command done.0 ≡ true
 
 command_kind : (command : Command) (slot : Slot) (t : ℕ) → IsBuilt command → is_answer_to command (command_step slot t command).0 ≡ true
 command_kind (BucketInsert bucket settings) slot t built = insert_cases (IsKind (BucketInsert bucket settings)) slot t bucket settings (λ reason. refl) (λ free. refl)
+command_kind (BucketList shard prefix after most) slot t built = refl
 command_kind (BucketGet bucket pre) slot t built = bucket_get_cases (IsKind (BucketGet bucket pre)) slot bucket pre (λ reason. refl) (λ s. refl)
 command_kind (BucketChange bucket pre change whole) slot t built =
     bucket_change_cases (IsKind (BucketChange bucket pre change whole)) slot t bucket pre change whole (λ reason. refl) (λ s is passed. refl)
 command_kind (BucketDelete bucket pre) slot t built = bucket_delete_cases (IsKind (BucketDelete bucket pre)) slot t pre (λ reason. refl) (λ s is passed. refl)
+command_kind (Listing bucket query) slot t built = list_cases (IsKind (Listing bucket query)) slot query (λ reason. refl) (λ s. refl)
 command_kind (Get bucket name generation soft pre) slot t built =
     get_cases (IsKind (Get bucket name generation soft pre)) slot name generation soft pre (λ reason. refl) (λ row settings. refl)
 command_kind (Change bucket name generation pre change whole) slot t built =
@@ -41,9 +43,11 @@ step_kind slot moment command built =
 
 first_kind : (command : Command) (name : List ℕ) (slots : Slots) (moment : ℕ) → IsBuilt command → is_answer_to command (first_step name slots moment command).0 ≡ true
 first_kind (BucketInsert bucket settings) name slots moment built = step_kind fresh_slot moment (BucketInsert bucket settings) built
+first_kind (BucketList shard prefix after most) name slots moment built = refl
 first_kind (BucketGet bucket pre) name slots moment built = refl
 first_kind (BucketChange bucket pre change whole) name slots moment built = refl
 first_kind (BucketDelete bucket pre) name slots moment built = refl
+first_kind (Listing bucket query) name slots moment built = refl
 first_kind (Get bucket object generation soft pre) name slots moment built = refl
 first_kind (Change bucket object generation pre change whole) name slots moment built = refl
 first_kind (Delete bucket object generation pre) name slots moment built = refl
@@ -57,9 +61,11 @@ slot_kind None name slots moment command built = first_kind command name slots m
 shard_kind : (command : Command) (slots : Slots) (moment : ℕ) → IsBuilt command → is_answer_to command (shard_step slots moment command).0 ≡ true
 unfolding shard_step
 shard_kind (BucketInsert bucket settings) slots moment built = slot_kind (slot_of bucket slots) bucket slots moment (BucketInsert bucket settings) built
+shard_kind (BucketList shard prefix after most) slots moment built = refl
 shard_kind (BucketGet bucket pre) slots moment built = slot_kind (slot_of bucket slots) bucket slots moment (BucketGet bucket pre) built
 shard_kind (BucketChange bucket pre change whole) slots moment built = slot_kind (slot_of bucket slots) bucket slots moment (BucketChange bucket pre change whole) built
 shard_kind (BucketDelete bucket pre) slots moment built = slot_kind (slot_of bucket slots) bucket slots moment (BucketDelete bucket pre) built
+shard_kind (Listing bucket query) slots moment built = slot_kind (slot_of bucket slots) bucket slots moment (Listing bucket query) built
 shard_kind (Get bucket name generation soft pre) slots moment built = slot_kind (slot_of bucket slots) bucket slots moment (Get bucket name generation soft pre) built
 shard_kind (Change bucket name generation pre change whole) slots moment built = slot_kind (slot_of bucket slots) bucket slots moment (Change bucket name generation pre change whole) built
 shard_kind (Delete bucket name generation pre) slots moment built = slot_kind (slot_of bucket slots) bucket slots moment (Delete bucket name generation pre) built

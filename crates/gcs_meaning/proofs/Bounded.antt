@@ -11,7 +11,7 @@ use Rattle.gcs_meaning.specs.declared.policy.Retired.{Retired}
 use Rattle.gcs_meaning.specs.declared.policy.Retired.TheVariants.{Noncurrent as ToNoncurrent, Soft as ToSoft, Out}
 use Rattle.gcs_meaning.specs.declared.command.Answer.{Answer}
 use Rattle.gcs_meaning.specs.declared.command.Command.{Command}
-use Rattle.gcs_meaning.specs.declared.command.Command.TheVariants.{BucketInsert, BucketGet, BucketChange, BucketDelete, BucketRestore, Get, Change, Delete, Put}
+use Rattle.gcs_meaning.specs.declared.command.Command.TheVariants.{BucketInsert, BucketGet, BucketChange, BucketDelete, BucketRestore, List as Listing, Get, Change, Delete, Put}
 use Rattle.gcs_meaning.specs.declared.command.Entry.{Entry}
 use Rattle.gcs_meaning.specs.Moment.{effective_moment, last_reading}
 use Rattle.gcs_meaning.specs.Slot.{State, Grave, Slot, fresh_slot}
@@ -29,7 +29,7 @@ use Rattle.gcs_meaning.specs.History.{Slots, slot_of, with_slot, set_by, found_b
 use Rattle.gcs_meaning.specs.Bounds.{IsChangedAtMost, IsWithin, AreWithin}
 use Rattle.gcs_meaning.proofs.Listed.{all-filter, all-map, all-weaker, all-change_first, all-with_row, some-weaker}
 use Rattle.gcs_meaning.proofs.Chosen.{all-chosen}
-use Rattle.gcs_meaning.proofs.Cases.{insert_cases, bucket_get_cases, bucket_change_cases, bucket_delete_cases, get_cases, change_cases, delete_cases, put_cases}
+use Rattle.gcs_meaning.proofs.Cases.{insert_cases, bucket_get_cases, bucket_change_cases, bucket_delete_cases, list_cases, get_cases, change_cases, delete_cases, put_cases}
 
 -- a version was changed at most n times
 abbrev IsRowWithin : ℕ → Row → Type 0
@@ -138,6 +138,7 @@ command_within (BucketChange bucket pre change whole) slot n t fits h =
     alive_within n slot _ (record { bucket = omega (arith, living.bucket); rows = (changes_more n s living).rows }) h)
 command_within (BucketDelete bucket pre) slot n t fits h =
     bucket_delete_cases (Within n) slot t pre (λ reason. within_more n slot h) (λ s is passed. deleted_within n t slot s is h)
+command_within (Listing bucket query) slot n t fits h = list_cases (Within n) slot query (λ reason. within_more n slot h) (λ s. within_more n slot h)
 command_within (Get bucket name generation soft pre) slot n t fits h =
     get_cases (Within n) slot name generation soft pre (λ reason. within_more n slot h) (λ row settings. within_more n slot h)
 command_within (Change bucket name generation pre change whole) slot n t fits h =

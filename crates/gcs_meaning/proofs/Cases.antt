@@ -3,6 +3,7 @@ use Rattle.std.proofs.Common.{◌≡◌, ℕ, Bool, List, Option, Some, None, re
 use Rattle.std.specs.Prelude.{is_some}
 use Rattle.gcs_meaning.specs.declared.changes.MetaChange.{MetaChange}
 use Rattle.gcs_meaning.specs.declared.changes.SettingsChange.{SettingsChange}
+use Rattle.gcs_meaning.specs.declared.listing.PageQuery.{PageQuery}
 use Rattle.gcs_meaning.specs.declared.settings.Meta.{Meta}
 use Rattle.gcs_meaning.specs.declared.settings.Pre.{Pre}
 use Rattle.gcs_meaning.specs.declared.settings.Settings.{Settings}
@@ -11,7 +12,7 @@ use Rattle.gcs_meaning.specs.declared.version.Row.{Row}
 use Rattle.gcs_meaning.specs.declared.reason.Reason.{Reason}
 use Rattle.gcs_meaning.specs.declared.reason.Reason.TheVariants.{Exists, NoBucket, NoObject}
 use Rattle.gcs_meaning.specs.declared.command.Answer.{Answer}
-use Rattle.gcs_meaning.specs.declared.command.Answer.TheVariants.{Refused, Bucket, Object}
+use Rattle.gcs_meaning.specs.declared.command.Answer.TheVariants.{Refused, Bucket, Object, Page as Paged}
 use Rattle.gcs_meaning.specs.Content.{Digested}
 use Rattle.gcs_meaning.specs.Moment.{next_generation}
 use Rattle.gcs_meaning.specs.Slot.{State, Slot}
@@ -19,6 +20,7 @@ use Rattle.gcs_meaning.specs.Policy.{bucket_pre_refusal, pre_refusal}
 use Rattle.gcs_meaning.specs.Choosing.{asked_row, chosen_row, live_row}
 use Rattle.gcs_meaning.specs.Buckets.{bucket_row, new_state, with_bucket, insert_on, insert_step, bucket_read_tested, bucket_get_on, bucket_get_step, bucket_delete_refusal, bucket_delete_tested, bucket_delete_on, bucket_delete_step}
 use Rattle.gcs_meaning.specs.BucketChanges.{changed_settings, bucket_change_refusal, bucket_change_state, bucket_change_tested, bucket_change_on, bucket_change_step}
+use Rattle.gcs_meaning.specs.Listing.{page_of, list_on, list_step}
 use Rattle.gcs_meaning.specs.Reads.{read_tested, read_found, get_on, get_step}
 use Rattle.gcs_meaning.specs.ObjectChanges.{changed_meta, change_refusal, changed_row, change_tested, change_found, change_on, change_step}
 use Rattle.gcs_meaning.specs.Deletes.{delete_refusal, delete_tested, delete_found, delete_on, delete_step}
@@ -96,6 +98,17 @@ pub bucket_delete_cases : (P : Answer × Slot → Type 0) (slot : Slot) (t : ℕ
     → IfBucketDeleted P slot.alive slot t pre → P (bucket_delete_step slot t pre)
 unfolding bucket_delete_step
 bucket_delete_cases P slot t pre refused done = bucket_delete_from P slot.alive slot t pre refused done
+
+-- the list of a bucket's versions
+list_from : (P : Answer × Slot → Type 0) (alive : Option State) (slot : Slot) (query : PageQuery) → IfRefused P slot
+    → ((s : State) → P (Paged (page_of s.settings query s.rows), slot)) → P (list_on alive slot query)
+list_from P None slot query refused done = refused NoBucket
+list_from P (Some s) slot query refused done = done s
+
+pub list_cases : (P : Answer × Slot → Type 0) (slot : Slot) (query : PageQuery) → IfRefused P slot
+    → ((s : State) → P (Paged (page_of s.settings query s.rows), slot)) → P (list_step slot query)
+unfolding list_step
+list_cases P slot query refused done = list_from P slot.alive slot query refused done
 
 -- the read of a version
 get_tested : (P : Answer × Slot → Type 0) (refusal : Option Reason) (slot : Slot) (settings : Settings) (row : Row) → IfRefused P slot

@@ -16,7 +16,7 @@ use Rattle.gcs_meaning.specs.declared.policy.Retired.{Retired}
 use Rattle.gcs_meaning.specs.declared.policy.Retired.TheVariants.{Noncurrent as ToNoncurrent, Soft as ToSoft, Out}
 use Rattle.gcs_meaning.specs.declared.command.Answer.{Answer}
 use Rattle.gcs_meaning.specs.declared.command.Command.{Command}
-use Rattle.gcs_meaning.specs.declared.command.Command.TheVariants.{BucketInsert, BucketGet, BucketChange, BucketDelete, Get, Change, Delete, Put}
+use Rattle.gcs_meaning.specs.declared.command.Command.TheVariants.{BucketInsert, BucketGet, BucketChange, BucketDelete, List as Listing, Get, Change, Delete, Put}
 use Rattle.gcs_meaning.specs.Content.{Digested, bytes_in}
 use Rattle.gcs_meaning.specs.Moment.{effective_moment, next_generation}
 use Rattle.gcs_meaning.specs.Policy.{bucket_pre_refusal, pre_refusal, micros, cover_of, cover_of_kind, retired_to}
@@ -36,7 +36,7 @@ use Rattle.gcs_meaning.specs.Laws.{CoveredIsKept}
 use Rattle.gcs_meaning.proofs.Members.{one-member, all-member, one-weaker, one-and-all, member-map, map-member, one-filter, one-change_first, one-with_row}
 use Rattle.gcs_meaning.proofs.Passing.{first_passed, second_passed}
 use Rattle.gcs_meaning.proofs.Fitting.{is_empty, soft_until}
-use Rattle.gcs_meaning.proofs.Cases.{insert_cases, bucket_get_cases, bucket_change_cases, bucket_delete_cases, get_cases, change_cases, delete_cases, put_cases}
+use Rattle.gcs_meaning.proofs.Cases.{insert_cases, bucket_get_cases, bucket_change_cases, bucket_delete_cases, list_cases, get_cases, change_cases, delete_cases, put_cases}
 
 -- the version that a row is
 abbrev IsThat : Row → Row → Type 0
@@ -234,6 +234,8 @@ command_keeps (BucketChange bucket pre change whole) slot t s row is within h =
 command_keeps (BucketDelete bucket pre) slot t s row is within h =
     bucket_delete_cases (Keeps row) slot t pre (λ reason. kept_before slot s row is within)
     (λ before alive passed. bury_keeps t pre before s row slot.graves passed (subst (λ states. IsOneOf states s) (buckets_are slot (Some before) alive) is) within h)
+command_keeps (Listing bucket query) slot t s row is within h =
+    list_cases (Keeps row) slot query (λ reason. kept_before slot s row is within) (λ state. kept_before slot s row is within)
 command_keeps (Get bucket name generation soft pre) slot t s row is within h =
     get_cases (Keeps row) slot name generation soft pre (λ reason. kept_before slot s row is within) (λ shown settings. kept_before slot s row is within)
 command_keeps (Change bucket name generation pre change whole) slot t s row is within h =

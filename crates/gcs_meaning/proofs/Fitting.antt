@@ -18,7 +18,7 @@ use Rattle.gcs_meaning.specs.declared.policy.Retired.TheVariants.{Noncurrent as 
 use Rattle.gcs_meaning.specs.declared.reason.Reason.TheVariants.{NotEmpty, TooLarge}
 use Rattle.gcs_meaning.specs.declared.command.Answer.{Answer}
 use Rattle.gcs_meaning.specs.declared.command.Command.{Command}
-use Rattle.gcs_meaning.specs.declared.command.Command.TheVariants.{BucketInsert, BucketGet, BucketChange, BucketDelete, Get, Change, Delete, Put}
+use Rattle.gcs_meaning.specs.declared.command.Command.TheVariants.{BucketInsert, BucketGet, BucketChange, BucketDelete, List as Listing, Get, Change, Delete, Put}
 use Rattle.gcs_meaning.specs.Content.{Digested, bytes_in}
 use Rattle.gcs_meaning.specs.Tests.{largest_object, size_refusal}
 use Rattle.gcs_meaning.specs.Moment.{effective_moment, next_generation}
@@ -39,7 +39,7 @@ use Rattle.gcs_meaning.proofs.Listed.{all-weaker, all-change_first, all-with_row
 use Rattle.gcs_meaning.proofs.Chosen.{all-chosen}
 use Rattle.gcs_meaning.proofs.Passing.{second_passed}
 use Rattle.gcs_meaning.proofs.FitAged.{state_later, grave_later, fit_aged}
-use Rattle.gcs_meaning.proofs.Cases.{insert_cases, bucket_get_cases, bucket_change_cases, bucket_delete_cases, get_cases, change_cases, delete_cases, put_cases}
+use Rattle.gcs_meaning.proofs.Cases.{insert_cases, bucket_get_cases, bucket_change_cases, bucket_delete_cases, list_cases, get_cases, change_cases, delete_cases, put_cases}
 
 -- a number above those before differs from them
 below_differ : (n m : ℕ) (ns : List ℕ) → m < n → AllByRecursion (λ k. k ≤ m) ns → AllByRecursion (λ k. k ≢ n) ns
@@ -263,6 +263,7 @@ command_fit (BucketChange bucket pre change whole) slot t at built h =
 command_fit (BucketDelete bucket pre) slot t at built h =
     bucket_delete_cases Fits slot t pre (λ reason. h)
     (λ s is passed. with_grave_fit (nat_lt t (grave_of t s).hard) slot t s is (grave_fit slot.last_object slot.last_moment slot.next_upload t pre s passed (living_fit slot s is h)) h)
+command_fit (Listing bucket query) slot t at built h = list_cases Fits slot query (λ reason. h) (λ s. h)
 command_fit (Get bucket name generation soft pre) slot t at built h = get_cases Fits slot name generation soft pre (λ reason. h) (λ row settings. h)
 command_fit (Change bucket name generation pre change whole) slot t at built h =
     let now : t ≤ slot.last_moment = omega (arith, at) in

@@ -2,12 +2,12 @@
 use Rattle.std.proofs.Common.{◌≤◌, ◌<◌, ℕ, List, [], ◌∷◌, ◌++◌, arith}
 use Rattle.gcs_meaning.specs.declared.command.Answer.{Answer}
 use Rattle.gcs_meaning.specs.declared.command.Command.{Command}
-use Rattle.gcs_meaning.specs.declared.command.Command.TheVariants.{BucketInsert, BucketGet, BucketChange, BucketDelete, Get, Change, Delete, Put}
+use Rattle.gcs_meaning.specs.declared.command.Command.TheVariants.{BucketInsert, BucketGet, BucketChange, BucketDelete, List as Listing, Get, Change, Delete, Put}
 use Rattle.gcs_meaning.specs.Moment.{effective_moment}
 use Rattle.gcs_meaning.specs.Slot.{Slot}
 use Rattle.gcs_meaning.specs.Aging.{aged}
 use Rattle.gcs_meaning.specs.Step.{step, command_step}
-use Rattle.gcs_meaning.proofs.Cases.{insert_cases, bucket_get_cases, bucket_change_cases, bucket_delete_cases, get_cases, change_cases, delete_cases, put_cases}
+use Rattle.gcs_meaning.proofs.Cases.{insert_cases, bucket_get_cases, bucket_change_cases, bucket_delete_cases, list_cases, get_cases, change_cases, delete_cases, put_cases}
 use Rattle.gcs_meaning.specs.Laws.{makes_version, made_by, made_in, IsRising, GenerationsRise}
 
 -- these rise from n, and end at most at m
@@ -37,6 +37,8 @@ command_rises (BucketChange bucket pre change whole) slot t =
     bucket_change_cases (Rises (BucketChange bucket pre change whole) slot) slot t bucket pre change whole (λ reason. omega arith) (λ s is passed. omega arith)
 command_rises (BucketDelete bucket pre) slot t =
     bucket_delete_cases (Rises (BucketDelete bucket pre) slot) slot t pre (λ reason. omega arith) (λ s is passed. omega arith)
+command_rises (Listing bucket query) slot t =
+    list_cases (Rises (Listing bucket query) slot) slot query (λ reason. omega arith) (λ s. omega arith)
 command_rises (Get bucket name generation soft pre) slot t =
     get_cases (Rises (Get bucket name generation soft pre) slot) slot name generation soft pre (λ reason. omega arith) (λ row settings. omega arith)
 command_rises (Change bucket name generation pre change whole) slot t =

@@ -1,6 +1,6 @@
 -- A shard: its slots by name, and the history that they come from.
-use Rattle.std.specs.Prelude.{◌≡◌, ℕ, ◌==◌, ◌&&◌, Bool, false, List, [], ◌∷◌, ◌++◌, Option, Some, None, if◌then◌else◌}
-use Rattle.std.specs.List.{AllByRecursion}
+use Rattle.std.specs.Prelude.{◌≡◌, ℕ, ◌==◌, ◌&&◌, Bool, false, List, [], ◌∷◌, ◌++◌, take, Option, Some, None, if◌then◌else◌}
+use Rattle.std.specs.List.{AllByRecursion, filter, flat_map}
 use Rattle.std.specs.Ordering.{nat_cmp}
 use Rattle.std.specs.Cmp.Lexicographic.{slice_cmp}
 use Rattle.std.specs.declared.cmp.Ordering.{Ordering}
@@ -11,7 +11,11 @@ use Rattle.gcs_meaning.specs.declared.command.Answer.TheVariants.{Refused, Bucke
 use Rattle.gcs_meaning.specs.declared.command.Command.{Command}
 use Rattle.gcs_meaning.specs.declared.command.Command.TheVariants.{BucketInsert, BucketList, BucketGet, BucketChange, BucketDelete, BucketLock, BucketRestore, List as Listing, Get, Change, Delete, Put, Compose, Restore, Start, Append, Finish, Cancel}
 use Rattle.gcs_meaning.specs.declared.command.Entry.{Entry}
-use Rattle.gcs_meaning.specs.Slot.{Slot, fresh_slot}
+use Rattle.gcs_meaning.specs.declared.version.BucketRow.{BucketRow}
+use Rattle.gcs_meaning.specs.Slot.{State, Slot, fresh_slot}
+use Rattle.gcs_meaning.specs.Texts.{begins}
+use Rattle.gcs_meaning.specs.Order.{is_below}
+use Rattle.gcs_meaning.specs.Buckets.{bucket_row}
 use Rattle.gcs_meaning.specs.Step.{step}
 
 -- the slots of a shard, rising by name
@@ -72,9 +76,28 @@ abbrev pub slot_step : Option Slot → List ℕ → Slots → ℕ → Command �
 slot_step (Some slot) name slots reading command = set_slot name slots (step slot reading command)
 slot_step None name slots reading command = first_step name slots reading command
 
+-- what is shown of a bucket, where it is alive
+abbrev pub shown_bucket : List ℕ → Option State → List BucketRow
+shown_bucket name None = []
+shown_bucket name (Some s) = bucket_row name s ∷ []
+
+-- the name begins with the prefix and comes after that one
+abbrev pub is_listed : List ℕ → List ℕ → List ℕ → Bool
+is_listed prefix after name = begins prefix name && is_below after name
+
+-- the buckets that are alive and whose names begin with the prefix and come after that one, in order, and at most so many
+abbrev pub listed_buckets : List ℕ → List ℕ → ℕ → Slots → List BucketRow
+listed_buckets prefix after most slots = take most (flat_map (λ p. shown_bucket p.0 p.1.alive) (filter (λ p. is_listed prefix after p.0) slots))
+
+-- the answer to a command that names no bucket
+abbrev pub unnamed_answer : Slots → Command → Answer
+unnamed_answer slots (BucketList shard prefix after most) = Buckets (listed_buckets prefix after most slots)
+unnamed_answer slots _ = Refused NoBucket
+
+-- a command that names no bucket changes nothing, and no slot ages
 abbrev pub named_step : Option (List ℕ) → Slots → ℕ → Command → Answer × Slots
 named_step (Some name) slots reading command = slot_step (slot_of name slots) name slots reading command
-named_step None slots reading command = (Buckets [], slots)
+named_step None slots reading command = (unnamed_answer slots command, slots)
 
 -- one entry on a shard: the answer and the slots after it
 unfoldable pub shard_step : Slots → ℕ → Command → Answer × Slots

@@ -1,9 +1,9 @@
 -- Laws over every slot, history and command.
 use Rattle.std.specs.Prelude.{◌≡◌, ◌<◌, ℕ, Bool, true, false, List, [], ◌∷◌, ◌++◌, Some}
 use Rattle.gcs_meaning.specs.declared.command.Answer.{Answer}
-use Rattle.gcs_meaning.specs.declared.command.Answer.TheVariants.{Bucket, Empty, Object, Refused}
+use Rattle.gcs_meaning.specs.declared.command.Answer.TheVariants.{Bucket, Buckets, Empty, Object, Page as Paged, Refused}
 use Rattle.gcs_meaning.specs.declared.command.Command.{Command}
-use Rattle.gcs_meaning.specs.declared.command.Command.TheVariants.{BucketInsert, BucketGet, BucketChange, BucketDelete, Get, Change, Delete, Put}
+use Rattle.gcs_meaning.specs.declared.command.Command.TheVariants.{BucketInsert, BucketList, BucketGet, BucketChange, BucketDelete, List as Listing, Get, Change, Delete, Put}
 use Rattle.gcs_meaning.specs.declared.command.Entry.{Entry}
 use Rattle.gcs_meaning.specs.declared.version.Row.{Row}
 use Rattle.gcs_meaning.specs.Content.{bytes_in}
@@ -58,9 +58,11 @@ CoveredIsKept = (slot : Slot) (moment : ℕ) (command : Command) (s : State) (ro
 abbrev pub is_answer_to : Command → Answer → Bool
 is_answer_to command (Refused reason) = true
 is_answer_to (BucketInsert bucket settings) (Bucket row) = true
+is_answer_to (BucketList shard prefix after most) (Buckets rows) = true
 is_answer_to (BucketGet bucket pre) (Bucket row) = true
 is_answer_to (BucketChange bucket pre change whole) (Bucket row) = true
 is_answer_to (BucketDelete bucket pre) Empty = true
+is_answer_to (Listing bucket query) (Paged page) = true
 is_answer_to (Get bucket name generation soft pre) (Object row settings) = true
 is_answer_to (Change bucket name generation pre change whole) (Object row settings) = true
 is_answer_to (Delete bucket name generation pre) Empty = true

@@ -9,6 +9,10 @@ pub mod Uploads
 pub mod Slot
 pub mod Aging
 pub mod Choosing
+pub mod Order
+pub mod Texts
+pub mod Listing
+pub mod Tokens
 pub mod Retiring
 pub mod Changes
 pub mod Buckets

@@ -19,6 +19,7 @@ mod reason;
 mod refusals;
 mod rewriting;
 mod settings;
+mod steps;
 #[cfg(test)]
 mod tests;
 mod text;
@@ -41,6 +42,7 @@ pub use reason::{Digest, Key, Reason};
 pub use refusals::key_text;
 pub use rewriting::{RewriteReply, RewriteToken};
 pub use settings::{Meta, Pre, Retention, Settings};
+pub use steps::Steps;
 pub use text::Text;
 pub use uploading::{Progress, Upload, UploadState};
 pub use version::{BucketRow, Expect, Kind, Part, Row, RowFacts};

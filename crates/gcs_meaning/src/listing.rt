@@ -53,3 +53,14 @@ pub struct Page {
     pub next: Option<Unit>,
     pub settings: Settings,
 }
+
+impl Copied for Page {
+    fn copy(&self) -> Result<Page, AllocError> {
+        Ok(Page {
+            items: self.items.copy()?,
+            prefixes: self.prefixes.copy()?,
+            next: self.next.copy()?,
+            settings: self.settings.copy()?,
+        })
+    }
+}

@@ -1,6 +1,6 @@
-use Rattle.std.proofs.Common.{◌≡◌, drop, ap, sym, ◌∙◌, arith}
+use Rattle.std.proofs.Common.{◌≡◌, drop, ap, arith}
 use Rattle.std.proofs.lemmas.List.{drop_all}
-use Rattle.gcs_meaning.specs.Pairs.{pairs_size, most_shown}
+use Rattle.gcs_meaning.specs.Pairs.{pairs_size}
 use Rattle.gcs_meaning.proofs.pairs.size_of.Goals as goal
 
 pub returns : goal.returns
