@@ -6,3 +6,5 @@ mod Running
 mod Complete
 mod Wholes
 pub mod CopyLemmas
+mod Floats
+pub mod OneMask

@@ -2,6 +2,7 @@
 //! a JSON value.
 #![tactic(auto)]
 
+mod laws;
 mod mask;
 mod read;
 mod scan;
@@ -9,6 +10,7 @@ mod select;
 #[cfg(test)]
 mod tests;
 
+pub use laws::law_one_mask;
 pub use mask::{Item, Mask, Name};
 pub use read::{MaskFault, read_mask};
 pub use select::apply;

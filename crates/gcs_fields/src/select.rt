@@ -1,6 +1,7 @@
 //! What a mask leaves of a JSON value.
-ghost use Rattle.std.specs.Prelude.{◌≡◌, List, IfOk, OnOk, option_map};
+ghost use Rattle.std.specs.Prelude.{◌≡◌, false, List, IfOk, OnOk, option_map};
 ghost use Rattle.serde_json.specs.View.{view, items_view, members_view};
+ghost use Rattle.serde_json.specs.Written.{has_float};
 ghost use Rattle.gcs_fields.specs.Select.{meets, together, select, select_items, select_members, selected};
 ghost use Rattle.gcs_fields.specs.Views.{name_of, mask_of};
 ghost use Rattle.gcs_fields.specs.Rests.{rests_of, IsFollowed, members_by};
@@ -31,7 +32,8 @@ enum Followed<'a> {
 /// leave it. Of a list each element is taken so. A text, a number, a truth value and null have no
 /// members, so nothing of them stays under a rest.
 pub fn apply(alloc: Global, mask: &Mask, value: Value) -> Result<Value, AllocError>
-    ensures { IfOk result (λ v. view v ≡ selected (mask_of mask.now) (view value)) }
+    ensures value { IfOk result (λ v. view v ≡ selected (mask_of mask.now) (view value)) }
+    ensures whole { has_float (view value) ≡ false → IfOk result (λ v. has_float (view v) ≡ false) }
 {
     let mut rests = Vec::new(alloc);
     push_items(&mut rests, mask.items())?;
