@@ -1,0 +1,13 @@
+//! The versions of a bucket's objects, by name and generation.
+#![tactic(auto)]
+
+mod kinds;
+mod places;
+mod rows;
+#[cfg(test)]
+mod tests;
+mod versions;
+
+pub use gcs_meaning::Steps;
+pub use kinds::{is_readable, stays};
+pub use versions::Versions;
