@@ -1,0 +1,14 @@
+pub mod BoundLemmas
+pub mod ByteLemmas
+pub mod CutLemmas
+pub mod ListingLemmas
+pub mod LookLemmas
+pub mod OrderLemmas
+pub mod PageLemmas
+pub mod PassLemmas
+pub mod RowLemmas
+pub mod SeekLemmas
+pub mod TextLemmas
+pub mod UnitLemmas
+pub mod ViewLemmas
+pub mod TokenLemmas

@@ -1,0 +1,13 @@
+use Rattle.std.proofs.Common.{◌≡◌, ◌≤◌, ◌+◌, ◌*◌}
+use Rattle.gcs_listing.specs.Seeking.{listed_rows, passed_count, IsBoundAmong}
+use Rattle.gcs_listing.proofs.PageLemmas.{IsTakenSo}
+use Rattle.gcs_listing.proofs.paging.take_units.Given as goal
+
+-- the units taken and those that are left are all that come after the token's, and the next is sought from the bound on
+abbrev pub invariant-loop : goal.invariant-loop
+invariant-loop g l = record {
+  taken : IsTakenSo l.query (listed_rows l.query.view l.moment l.versions.rows) l.taken l.last l.counter;
+  bound : IsBoundAmong l.query (listed_rows l.query.view l.moment l.versions.rows) l.last l.from;
+  cost : l.steps ≤ l.fn.steps + 2 * l.counter + passed_count l.query.view l.moment l.versions.rows l.from;
+  most : l.end ≡ l.query.most;
+}

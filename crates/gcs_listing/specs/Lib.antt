@@ -1,0 +1,4 @@
+pub mod Seeking
+pub mod Looking
+pub mod Paging
+pub mod Tokens
