@@ -1,0 +1,124 @@
+//! The pages of listings, compared with those of a plain body of their definition, and a line a case that tells whether they are
+//! the same.
+#![tactic(auto)]
+
+ghost use Rattle.std.specs.Prelude.{◌≡◌, ◌<◌};
+
+mod comparing;
+mod listing;
+mod plain;
+mod plan;
+mod store;
+
+use comparing::{Compared, compare_pages};
+use gcs_chunks::Chunks;
+use gcs_meaning::{Steps, View};
+use listing::{Listing, Span};
+use plain::units_of;
+use plan::{MOMENT, Planned, planned_versions};
+use std::io;
+use std::marker::Brand;
+use std::process::ExitCode;
+use std::sync::ledger::{Blank, Ledger};
+use store::Bucket;
+
+const VIEWS: [View; 3] = [View::Live, View::Versions, View::Soft];
+
+const DELIMITERS: [&str; 4] = ["", "/", "-", "/0"];
+
+const SIZES: [u32; 4] = [1, 7, 250, 1_000];
+
+const SPANS: [Span<'static>; 4] = [
+    Span {
+        prefix: "",
+        start: None,
+        end: None,
+    },
+    Span {
+        prefix: "a/",
+        start: None,
+        end: None,
+    },
+    Span {
+        prefix: "",
+        start: Some("a/b/"),
+        end: Some("d-2"),
+    },
+    Span {
+        prefix: "c",
+        start: Some("c1"),
+        end: Some("c3/"),
+    },
+];
+
+fn main(rt: HostRuntime) -> io::Result<ExitCode> {
+    let all_same = compare_all::<Brand>(&rt, Blank::new(1))?;
+    Ok(if all_same {
+        ExitCode::SUCCESS
+    } else {
+        ExitCode::FAILURE
+    })
+}
+
+// Prints a line for each case, and answers whether all pages are the same.
+fn compare_all<L: Ledger>(rt: &(impl Print + AllocGlobal), blank: Blank) -> io::Result<bool>
+    requires name { blank.name ≡ L.name }
+    requires parts { blank.parts ≡ L.parts }
+    requires some { 0 < blank.parts }
+{
+    let mut steps = Steps::<L>::new(blank);
+    let planned = planned_versions(rt.alloc())?;
+    let chunks = Chunks::new(rt.alloc())?;
+    let bucket = Bucket::of(rt.alloc(), &chunks, &planned, &mut steps)?;
+    let mut all_same = true;
+    for view in VIEWS {
+        for span in SPANS {
+            all_same &= compare_view(rt, &planned, &bucket, view, span, &mut steps)?;
+        }
+    }
+    Ok(all_same)
+}
+
+fn compare_view<L: Ledger>(
+    rt: &(impl Print + AllocGlobal),
+    planned: &[Planned],
+    bucket: &Bucket,
+    view: View,
+    span: Span<'_>,
+    steps: &mut Steps<L>,
+) -> io::Result<bool> {
+    let mut all_same = true;
+    for delimiter in DELIMITERS {
+        for trailing in [false, true] {
+            let listing = Listing {
+                view,
+                delimiter,
+                trailing,
+                span,
+            };
+            all_same &= compare_listing(rt, planned, bucket, &listing, steps)?;
+        }
+    }
+    Ok(all_same)
+}
+
+fn compare_listing<L: Ledger>(
+    rt: &(impl Print + AllocGlobal),
+    planned: &[Planned],
+    bucket: &Bucket,
+    listing: &Listing<'_>,
+    steps: &mut Steps<L>,
+) -> io::Result<bool> {
+    let units = units_of(rt.alloc(), planned, listing, MOMENT)?;
+    let mut all_same = true;
+    for most in SIZES {
+        match compare_pages(rt.alloc(), bucket, listing, &units, most, steps)? {
+            Compared::Same(pages) => println!(rt; "ok {listing} by {most}: {pages} pages")?,
+            Compared::DiffersAt(page) => {
+                all_same = false;
+                println!(rt; "FAILED {listing} by {most}: page {page} differs")?;
+            }
+        }
+    }
+    Ok(all_same)
+}
