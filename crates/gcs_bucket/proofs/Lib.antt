@@ -1,5 +1,7 @@
 pub mod Desks
 pub mod Firsts
+mod Listed
+pub mod Removed
 pub mod Slotted
 pub mod Sound
-pub mod Steps
+pub mod Commands

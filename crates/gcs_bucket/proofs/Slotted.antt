@@ -9,7 +9,6 @@ use Rattle.std.specs.declared.cmp.Ordering.TheVariants.{Equal}
 use Rattle.gcs_meaning.specs.declared.command.Entry.{Entry}
 use Rattle.gcs_meaning.specs.Slot.{State, Slot, fresh_slot}
 use Rattle.gcs_meaning.specs.Bounds.{AreWithin, IsChangedAtMost, IsSmall}
-use Rattle.gcs_meaning.specs.Fit.{IfThere}
 use Rattle.gcs_meaning.proofs.Listed.{all-weaker, some-weaker}
 use Rattle.gcs_meaning.proofs.Bounded.{replay_within}
 use Rattle.gcs_meaning.proofs.Replays.{replay-push}

@@ -1,6 +1,6 @@
 -- What every slot keeps, a step keeps; and a step can be made on it where its numbers leave room.
-use Rattle.std.proofs.Common.{◌≡◌, ◌≤◌, ◌<◌, ◌^◌, ℕ, Bool, true, false, List, [], ◌∷◌, Option, Some, None, Result, Ok, Err, refl, ap, sym, subst, inl, inr, arith}
-use Rattle.std.specs.Prelude.{IfOk, OnErr}
+use Rattle.std.proofs.Common.{◌≡◌, ◌≤◌, ◌<◌, ◌^◌, ℕ, Bool, true, false, List, Option, Some, None, Result, Ok, Err, refl, ap, sym, subst, inr, arith}
+use Rattle.std.specs.Prelude.{IfOk, OnErr, ◌+◌, max}
 use Rattle.std.specs.Option.{ForSome, option_map}
 use Rattle.std.specs.List.{AllByRecursion}
 use Rattle.gcs_meaning.specs.declared.changes.Set.{Set}
@@ -11,7 +11,7 @@ use Rattle.gcs_meaning.specs.declared.settings.Settings.{Settings}
 use Rattle.gcs_meaning.specs.declared.version.Row.{Row}
 use Rattle.gcs_meaning.specs.declared.command.Answer.{Answer}
 use Rattle.gcs_meaning.specs.declared.command.Command.{Command}
-use Rattle.gcs_meaning.specs.declared.command.Command.TheVariants.{BucketInsert, BucketGet, BucketChange, BucketDelete, Get, Change, Delete, Put}
+use Rattle.gcs_meaning.specs.declared.command.Command.TheVariants.{List as Listing, BucketInsert, BucketGet, BucketChange, BucketDelete, Get, Change, Delete, Put}
 use Rattle.gcs_meaning.specs.Moment.{effective_moment}
 use Rattle.gcs_meaning.specs.Slot.{State, Slot, fresh_slot}
 use Rattle.gcs_meaning.specs.Fit.{IfThere, IsFitRow, IsFitState}
@@ -21,16 +21,16 @@ use Rattle.gcs_meaning.specs.Policy.{AreInLimits, IsPeriod, IsDuration}
 use Rattle.gcs_meaning.specs.Buckets.{settings_since}
 use Rattle.gcs_meaning.specs.Choosing.{is_live_of, live_row}
 use Rattle.gcs_meaning.specs.Changes.{changed, changed_option, IfSet}
-use Rattle.gcs_meaning.specs.BucketChanges.{AreSetInLimits, changed_settings, changed_period, changed_duration, default_soft_seconds, policy_of}
+use Rattle.gcs_meaning.specs.BucketChanges.{AreSetInLimits, changed_settings, changed_period, default_soft_seconds, policy_of}
 use Rattle.gcs_meaning.specs.ObjectChanges.{change_state}
 use Rattle.gcs_meaning.specs.Deletes.{delete_state}
 use Rattle.gcs_meaning.specs.Put.{put_state}
 use Rattle.gcs_meaning.specs.Step.{IsBuilt, step, command_step}
-use Rattle.gcs_meaning.proofs.Cases.{insert_cases, bucket_get_cases, bucket_change_cases, bucket_delete_cases, get_cases, change_cases, delete_cases, put_cases}
+use Rattle.gcs_meaning.proofs.Cases.{list_cases, insert_cases, bucket_get_cases, bucket_change_cases, bucket_delete_cases, get_cases, change_cases, delete_cases, put_cases}
 use Rattle.gcs_meaning.proofs.Chosen.{all-find}
 use Rattle.gcs_meaning.proofs.Fitting.{fit_is_kept}
 use Rattle.gcs_meaning.proofs.Listed.{all-filter, all-weaker}
-use Rattle.gcs_bucket.specs.Living.{AreLimited, AreEarly, IsEarly}
+use Rattle.gcs_bucket.specs.Living.{AreCounted, AreLimited, AreEarly, IsEarly}
 use Rattle.gcs_bucket.specs.Slot.{IsSound, IsReady}
 
 -- the slot before the first insert
@@ -138,6 +138,7 @@ command_limited (Delete bucket name generation pre) slot t built h =
 command_limited (Put bucket name pre meta hashed components expect) slot t built h =
     put_cases Limited slot t name pre meta hashed components expect (λ reason. h)
     (λ s is passed. put_limited s t _ (limits_of slot s is h))
+command_limited (Listing bucket query) slot t built h = list_cases Limited slot query (λ reason. h) (λ s. h)
 command_limited _ slot t built h = h
 
 -- one step
@@ -190,9 +191,31 @@ alive_early : (o m u : ℕ) (alive : Option State) → m < 2 ^ 62 → IfThere al
 alive_early o m u None small h = tt
 alive_early o m u (Some s) small h = all-weaker (IsFitRow o m) IsEarly (λ row fit. row_early o m row small fit) s.rows h.rows
 
+-- no generation is above the last
+alive_counted : (o m u : ℕ) (alive : Option State) → IfThere alive (IsFitState o m u) → IfThere alive (λ s. AreCounted o s.rows)
+alive_counted o m u None h = tt
+alive_counted o m u (Some s) h = all-weaker (IsFitRow o m) (λ row. row.generation ≤ o) (λ row fit. fit.generation) s.rows h.rows
+
+-- so that the next is above all, also once the slot is aged
+pub above_aged : (t o g : ℕ) (alive : Option State) (before state : State) → alive ≡ Some before → state ≡ aged_state t before → o < g
+    → IfThere alive (λ s. AreCounted o s.rows) → AllByRecursion (λ row. row.generation < g) state.rows
+unfolding aged_state
+above_aged t o g alive before state lives is more h =
+    subst (λ (s : State). AllByRecursion (λ row. row.generation < g) s.rows) (sym is)
+    (all-filter (λ row. row.generation < g) (λ row. kind_stays t row.kind) before.rows
+    (all-weaker (λ row. row.generation ≤ o) (λ row. row.generation < g) (λ row few. omega (arith, few, more)) before.rows (subst (λ a. IfThere a (λ s. AreCounted o s.rows)) lives h)))
+
+-- the next generation
+pub more_than : (g t o : ℕ) → g ≡ max t (o + 1) → o < g
+more_than g t o is = omega (arith, is)
+
+pub one_more : (g t o : ℕ) → g ≡ max t (o + 1) → 1 ≤ g
+one_more g t o is = omega (arith, is)
+
 pub ready_when : (slot : Slot) → IsSound slot → IsSmall slot → IsReady slot
 ready_when slot h small = record {
   small = small;
   limits = h.limits;
   early = alive_early slot.last_object slot.last_moment slot.next_upload slot.alive small.moment h.fit.alive;
+  counted = alive_counted slot.last_object slot.last_moment slot.next_upload slot.alive h.fit.alive;
 }

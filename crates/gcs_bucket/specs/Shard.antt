@@ -1,13 +1,23 @@
 -- Slots by name, as a shard keeps them.
-use Rattle.std.specs.Prelude.{◌≡◌, ◌≤◌, ◌<◌, ◌^◌, ℕ, List, [], ◌∷◌, length, insert, slice_get, Some, None}
+use Rattle.std.specs.Prelude.{◌≡◌, ◌≤◌, ◌<◌, ◌^◌, ℕ, List, [], ◌∷◌, ◌++◌, if◌then◌else◌, length, insert, slice_get, Some, None}
 use Rattle.gcs_meaning.specs.declared.command.Answer.{Answer}
 use Rattle.gcs_meaning.specs.declared.command.Command.{Command}
 use Rattle.gcs_meaning.specs.declared.command.Entry.{Entry}
 use Rattle.gcs_meaning.specs.Slot.{Slot}
 use Rattle.gcs_meaning.specs.Bounds.{IsSmall}
 use Rattle.gcs_meaning.specs.Step.{step}
-use Rattle.gcs_meaning.specs.History.{Slots, slot_of, with_slot, replay}
-use Rattle.gcs_bucket.specs.Rows.{map_at}
+use Rattle.gcs_meaning.specs.declared.version.BucketRow.{BucketRow}
+use Rattle.gcs_meaning.specs.History.{Slots, slot_of, with_slot, replay, is_listed, shown_bucket}
+use Rattle.gcs_versions.specs.Rows.{map_at}
+
+-- what a slot adds to a list of buckets
+abbrev pub listed_of : List ℕ → List ℕ → List ℕ × Slot → List BucketRow
+listed_of prefix after p = if is_listed prefix after p.0 then shown_bucket p.0 p.1.alive else []
+
+-- the buckets that these slots list
+abbrev pub all_listed : List ℕ → List ℕ → Slots → List BucketRow
+all_listed prefix after [] = []
+all_listed prefix after (p ∷ ps) = listed_of prefix after p ++ all_listed prefix after ps
 
 -- the numbers of all slots leave room for one more step
 abbrev pub AreSmall : Slots → Type 0

@@ -3,7 +3,7 @@ use Rattle.gcs_meaning.specs.Bounds.{IsSmall}
 use Rattle.gcs_meaning.specs.Fit.{IfThere, IsFit}
 use Rattle.gcs_meaning.specs.Slot.{Slot}
 use Rattle.gcs_bucket.specs.declared.slot.Slot.{Slot as Fields}
-use Rattle.gcs_bucket.specs.Living.{alive_of, AreEarly, AreLimited}
+use Rattle.gcs_bucket.specs.Living.{alive_of, AreCounted, AreEarly, AreLimited}
 
 -- the slot that its fields stand for
 abbrev pub value_of : Fields → Slot
@@ -14,8 +14,10 @@ pub record IsSound (slot : Slot) : Type 0 where
   pub fit : IsFit slot
   pub limits : AreLimited slot.alive
 
--- a slot on which a step can be made: its numbers leave room for it, and its settings and versions have theirs in their limits
+-- a slot on which a step can be made: its numbers leave room for it, and its settings and versions have theirs in their limits, and
+-- no generation is above the last
 pub record IsReady (slot : Slot) : Type 0 where
   pub small : IsSmall slot
   pub limits : AreLimited slot.alive
   pub early : IfThere slot.alive (λ s. AreEarly s.rows)
+  pub counted : IfThere slot.alive (λ s. AreCounted slot.last_object s.rows)

@@ -1,15 +1,18 @@
 //! A bucket's slot: what is kept under its name, and the one call that changes it.
-ghost use Rattle.std.specs.Prelude.{◌≡◌, IfOk, OnErr};
+ghost use Rattle.std.specs.Prelude.{◌≡◌, ◌≤◌, ◌+◌, IfOk, OnErr, false, option_map};
+ghost use Rattle.gcs_meaning.specs.Buckets.{bucket_row};
 ghost use Rattle.gcs_meaning.specs.Fit.{IsFit};
 ghost use Rattle.gcs_meaning.specs.Slot.{fresh_slot};
 ghost use Rattle.gcs_meaning.specs.Bounds.{IsSmall};
-ghost use Rattle.gcs_meaning.specs.Step.{step, IsBuilt};
+ghost use Rattle.gcs_meaning.specs.Step.{step, IsOnSlot};
+ghost use Rattle.gcs_bucket.specs.Commands.{is_list};
 
 use crate::slot::Slot;
 use gcs_chunks::Chunks;
-use gcs_meaning::{Answer, Command};
+use gcs_meaning::{Answer, BucketName, BucketRow, Command, Steps};
 use std::alloc::{AllocError, Global};
 use std::marker::Model;
+use std::sync::ledger::Ledger;
 
 /// What is kept under the name of a bucket, seen as its slot: the bucket while it is alive, its
 /// versions, and the last numbers, which outlive it.
@@ -44,22 +47,35 @@ impl Bucket {
         }
     }
 
+    /// What is shown of the bucket, where it is alive. `Err`: no memory.
+    pub(crate) fn show(&self, name: &BucketName) -> Result<Option<BucketRow>, AllocError>
+        ensures { IfOk result (λ shown. shown ≡ option_map (bucket_row name.now) self.now.alive) }
+    {
+        match &self.slot.living {
+            Some(living) => Ok(Some(living.show(name)?)),
+            None => Ok(None),
+        }
+    }
+
     /// One command, whose request took the clock's reading `moment` (microseconds since 1970). The
-    /// slot is aged first, then tested, then changed; a refusal is an answer.
+    /// slot is aged first, then tested, then changed; a refusal is an answer. `steps` counts the
+    /// calls of `Versions::get`, `live` and `seek`.
     ///
     /// `Err`: no memory, and the slot stays as it was, not even aged.
-    pub fn apply(
+    pub fn apply<L: Ledger>(
         &mut self,
         moment: u64,
         command: &Command,
         _chunks: &Chunks,
+        steps: &mut Steps<L>,
     ) -> Result<Answer, AllocError>
         requires small { IsSmall self.old }
-        requires built { IsBuilt command.now }
+        requires built { IsOnSlot command.now }
         ensures done { IfOk result (λ answer. step self.old moment command.now ≡ (answer, self.new)) }
         ensures err { OnErr result (self.new ≡ self.old) }
         ensures fit { IsFit self.new }
+        ensures cost { is_list command.now ≡ false → steps.new ≤ steps.old + 2 }
     {
-        self.slot.apply(moment, command)
+        self.slot.apply(moment, command, steps)
     }
 }

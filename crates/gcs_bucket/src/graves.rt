@@ -1,13 +1,12 @@
 //! Deleted buckets, until their hard times.
 ghost use Rattle.std.specs.Prelude.{◌≡◌, ◌≤◌, ◌<◌, ◌^◌, filter, length, map, nat_lt, vec_len, vec_capacity};
 ghost use Rattle.gcs_meaning.specs.Aging.{aged_grave, aged_graves};
-ghost use Rattle.gcs_meaning.specs.Buckets.{grave_of, hard_of, latest_hard, with_grave};
+ghost use Rattle.gcs_meaning.specs.Buckets.{grave_of, with_grave};
 ghost use Rattle.gcs_meaning.specs.Policy.{AreInLimits};
 ghost use Rattle.gcs_bucket.specs.Living.{state_of};
-ghost use Rattle.gcs_bucket.specs.Rows.{map_at};
+ghost use Rattle.gcs_versions.specs.Rows.{map_at};
 
 use crate::living::Living;
-use gcs_meaning::{Kind, Row};
 use std::marker::Model;
 
 const MICROSECONDS_PER_SECOND: u64 = 1_000_000;
@@ -38,7 +37,7 @@ impl Grave {
         ensures { result ≡ grave_of moment (state_of living) }
     {
         let until = moment + living.settings.soft_seconds * MICROSECONDS_PER_SECOND;
-        let hard = until.max(latest(&living.rows));
+        let hard = until.max(living.rows.latest_hard());
         Grave { living, hard }
     }
 
@@ -46,26 +45,6 @@ impl Grave {
         ensures { self.new ≡ aged_grave moment self.old }
     {
         self.living.age(moment);
-    }
-}
-
-// The latest hard time of the versions, 0 where none has one.
-fn latest(rows: &[Row]) -> u64
-    ensures { result ≡ latest_hard rows.now }
-{
-    let mut latest = 0u64;
-    for row in rows {
-        latest = latest.max(hard_time(row.kind));
-    }
-    latest
-}
-
-fn hard_time(kind: Kind) -> u64
-    ensures { result ≡ hard_of kind }
-{
-    match kind {
-        Kind::Live | Kind::Noncurrent { .. } => 0,
-        Kind::Soft { hard, .. } => hard,
     }
 }
 

@@ -6,6 +6,7 @@
 mod asks;
 mod bucket;
 mod bucket_commands;
+mod bucket_lists;
 #[cfg(test)]
 mod calls;
 mod choosing;
@@ -15,7 +16,6 @@ mod living;
 mod puts;
 mod reads;
 mod refusals;
-mod rows;
 mod settings;
 mod shard;
 mod slot;
@@ -27,4 +27,5 @@ mod versions;
 
 pub use bucket::Bucket;
 pub use desk::PlainDesk;
+pub use gcs_meaning::Steps;
 pub use shard::Shard;

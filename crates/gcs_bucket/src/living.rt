@@ -1,16 +1,16 @@
 //! A bucket that is alive: its settings, its numbers and its versions.
-ghost use Rattle.std.specs.Prelude.{◌≡◌, ◌≤◌, IfOk, vec_len, vec_capacity};
+ghost use Rattle.std.specs.Prelude.{◌≡◌, ℕ, IfOk, List};
 ghost use Rattle.std.specs.Option.{option_map};
 ghost use Rattle.gcs_meaning.specs.Aging.{aged_state};
 ghost use Rattle.gcs_meaning.specs.Buckets.{bucket_row, in_force, new_state, settings_since};
+ghost use Rattle.gcs_versions.specs.Kept.{IsReadyToPut, IsReadyToRetire};
 ghost use Rattle.gcs_bucket.specs.Living.{state_of};
 
-use crate::rows::age_rows;
-use gcs_meaning::{BucketName, BucketRow, Copied, Retention, Row, Settings};
+use gcs_meaning::{BucketName, BucketRow, Copied, Retention, Settings};
+use gcs_versions::Versions;
 use std::alloc::{AllocError, Global};
 
-/// The fields of a bucket that is alive. The rows rise by name and generation; moments are
-/// microseconds since 1970.
+/// The fields of a bucket that is alive. Moments are microseconds since 1970.
 #[derive(Drop)]
 pub struct Living {
     pub settings: Settings,
@@ -18,7 +18,7 @@ pub struct Living {
     pub metageneration: u64,
     pub created: u64,
     pub updated: u64,
-    pub rows: Vec<Row>,
+    pub rows: Versions,
 }
 
 impl Living {
@@ -37,7 +37,7 @@ impl Living {
             metageneration: 1,
             created: moment,
             updated: moment,
-            rows: Vec::new(alloc),
+            rows: Versions::new(alloc),
         })
     }
 
@@ -55,16 +55,16 @@ impl Living {
         })
     }
 
-    /// Takes away what has passed its hard time.
+    /// Takes away what has passed its hard time. What was prepared stays prepared.
     #[tactic(auto, unfolding(gcs_meaning::specs::Aging::aged_state, gcs_meaning::specs::Uploads::aged_uploads))]
     pub fn age(&mut self, moment: u64)
         ensures state { state_of self.new ≡ aged_state moment (state_of self.old) }
         ensures settings { self.new.settings ≡ self.old.settings }
         ensures metageneration { self.new.metageneration ≡ self.old.metageneration }
-        ensures fewer { vec_len self.new.rows ≤ vec_len self.old.rows }
-        ensures capacity { vec_capacity self.new.rows ≡ vec_capacity self.old.rows }
+        ensures put { (name : List ℕ) → IsReadyToPut name self.old.rows → IsReadyToPut name self.new.rows }
+        ensures retire { (name : List ℕ) → IsReadyToRetire name self.old.rows → IsReadyToRetire name self.new.rows }
     {
-        age_rows(&mut self.rows, moment);
+        self.rows.age(moment);
     }
 }
 

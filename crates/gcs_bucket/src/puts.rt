@@ -1,20 +1,24 @@
 //! A new version of a name in a bucket that is alive.
-ghost use Rattle.std.specs.Prelude.{◌≡◌, ◌<◌, ◌^◌, IfOk, OnOk, Some, None, unwrap_or, vec_len, vec_capacity};
+ghost use Rattle.std.specs.Prelude.{◌≡◌, ◌<◌, ◌+◌, ◌^◌, IfOk, OnOk, Some, None, true, unwrap_or};
+ghost use Rattle.std.specs.List.{AllByRecursion};
 ghost use Rattle.std.specs.Option.{option_copied};
-ghost use Rattle.gcs_meaning.specs.Choosing.{live_row};
+ghost use Rattle.gcs_meaning.specs.Choosing.{is_live, live_row};
+ghost use Rattle.gcs_meaning.specs.Deletes.{delete_state};
 ghost use Rattle.gcs_meaning.specs.Fit.{IfThere};
+ghost use Rattle.gcs_meaning.specs.Order.{IsNumbered};
 ghost use Rattle.gcs_meaning.specs.Policy.{AreInLimits};
 ghost use Rattle.gcs_meaning.specs.Put.{generation_of, kept_meta, metageneration_of, new_row, put_refusal, put_state, replaced_refusal};
+ghost use Rattle.gcs_versions.specs.Kept.{IsReadyToPut, IsReadyToRetire};
 ghost use Rattle.gcs_bucket.specs.Living.{AreEarly, IsEarly, state_of};
 ghost use Rattle.gcs_bucket.specs.Prepared.{Makes};
 
-use crate::choosing::find_live;
 use crate::living::Living;
 use crate::refusals::{differing_digest, failed_precondition, kept_version, too_large};
-use crate::rows::{add_row, retire_row};
-use gcs_meaning::{Copied, Expect, Hashed, Kind, Meta, Name, Pre, Reason, Row, Settings, Text};
-use gcs_policy::retire;
+use gcs_meaning::{
+    Copied, Expect, Hashed, Kind, Meta, Name, Pre, Reason, Row, Settings, Steps, Text,
+};
 use std::alloc::AllocError;
+use std::sync::ledger::Ledger;
 
 /// What a version that is made needs of memory, taken before anything is changed: the version, its
 /// copy for the answer, and the settings that are shown with it.
@@ -38,10 +42,11 @@ impl Living {
     ) -> Result<Prepared, AllocError>
         ensures state { state_of self.new ≡ state_of self.old }
         ensures settings { self.new.settings ≡ self.old.settings }
-        ensures room { OnOk result (vec_len self.new.rows < vec_capacity self.new.rows) }
+        ensures put { OnOk result (IsReadyToPut name.now self.new.rows) }
+        ensures retire { OnOk result (IsReadyToRetire name.now self.new.rows) }
         ensures made { IfOk result (λ made. Makes made (state_of self.old).settings (new_row (state_of self.old).settings moment generation name.now meta.now hashed.now components)) }
     {
-        self.rows.reserve(1)?;
+        self.rows.prepare(name)?;
         let row = make_row(
             &self.settings,
             moment,
@@ -60,22 +65,24 @@ impl Living {
         })
     }
 
-    /// The first test of a put at `moment` that fails.
+    /// The first test of a put at `moment` that fails. One step.
     #[tactic(auto, unfolding(gcs_meaning::specs::Put::put_refusal))]
-    pub fn put_refusal(
+    pub fn put_refusal<L: Ledger>(
         &self,
         moment: u64,
         name: &Name,
         pre: &Pre,
         expect: &Expect,
         hashed: &Hashed,
+        steps: &mut Steps<L>,
     ) -> Option<Reason>
         requires limits { AreInLimits self.now.settings }
-        requires early { AreEarly self.now.rows.items }
+        requires early { AreEarly self.now.rows.rows }
         requires moment { moment < 2 ^ 62 }
-        ensures { result ≡ put_refusal self.now.settings moment pre.now expect.now hashed.now (live_row name.now self.now.rows.items) }
+        ensures refusal { result ≡ put_refusal self.now.settings moment pre.now expect.now hashed.now (live_row name.now self.now.rows.rows) }
+        ensures cost { steps.new ≡ steps.old + 1 }
     {
-        let live = find_live(&self.rows, name);
+        let live = self.rows.live(name, steps);
         let (generation, metageneration) = numbers(live);
         let kept = kept_live(&self.settings, moment, live);
         failed_precondition(pre, generation, metageneration)
@@ -84,18 +91,42 @@ impl Living {
             .or_else(|| too_large(hashed.content().len()))
     }
 
-    /// Retires the live version of the row's name, and adds the row. There is room for it.
-    #[tactic(auto, unfolding(gcs_meaning::specs::Put::put_state))]
-    pub fn put(&mut self, moment: u64, row: Row)
-        requires room { vec_len self.old.rows < vec_capacity self.old.rows }
+    /// Retires the live version of the row's name, and adds the row, which is live and whose
+    /// generation is above all of the bucket's. Both were prepared. One step.
+    #[tactic(auto, unfolding(gcs_meaning::specs::Put::put_state, gcs_meaning::specs::Deletes::delete_state))]
+    pub fn put<L: Ledger>(&mut self, moment: u64, row: Row, steps: &mut Steps<L>)
+        requires put { IsReadyToPut row.name self.old.rows }
+        requires retire { IsReadyToRetire row.name self.old.rows }
         requires limits { AreInLimits self.old.settings }
         requires moment { moment < 2 ^ 62 }
+        requires live { is_live row.kind ≡ true }
+        requires numbered { IsNumbered row }
+        requires above { AllByRecursion (λ other. other.generation < row.generation) self.old.rows.rows }
         ensures state { state_of self.new ≡ put_state (state_of self.old) moment row }
         ensures settings { self.new.settings ≡ self.old.settings }
+        ensures cost { steps.new ≡ steps.old + 1 }
     {
-        let to = retire(&self.settings, moment, false);
-        retire_row(&mut self.rows, to, moment, &row.name, None);
-        add_row(&mut self.rows, row);
+        self.retire_live(moment, &row.name, steps);
+        self.rows.put(row);
+    }
+
+    // Retires the live version of the name, where there is one.
+    fn retire_live<L: Ledger>(&mut self, moment: u64, name: &Name, steps: &mut Steps<L>)
+        requires retire { IsReadyToRetire name.now self.old.rows }
+        requires limits { AreInLimits self.old.settings }
+        requires moment { moment < 2 ^ 62 }
+        ensures state { state_of self.new ≡ delete_state (state_of self.old) moment name.now None }
+        ensures none { live_row name.now self.new.rows.rows ≡ None }
+        ensures settings { self.new.settings ≡ self.old.settings }
+        ensures put { IsReadyToPut name.now self.old.rows → IsReadyToPut name.now self.new.rows }
+        ensures cost { steps.new ≡ steps.old + 1 }
+    {
+        self.rows.known();
+        let Some(live) = self.rows.live(name, steps) else {
+            return;
+        };
+        let generation = live.generation;
+        self.remove(moment, name, None, generation);
     }
 }
 

@@ -5,10 +5,10 @@ ghost use Rattle.gcs_meaning.specs.Buckets.{bucket_delete_refusal, empty_refusal
 ghost use Rattle.gcs_bucket.specs.Living.{state_of};
 ghost use Rattle.gcs_bucket.specs.Prepared.{MakesBucket};
 
-use crate::choosing::has_readable;
 use crate::living::Living;
 use crate::refusals::{failed_on_bucket, locked_policy};
-use gcs_meaning::{BucketName, BucketRow, Copied, Pre, Reason, Row, Settings, SettingsChange};
+use gcs_meaning::{BucketName, BucketRow, Copied, Pre, Reason, Settings, SettingsChange};
+use gcs_versions::Versions;
 use std::alloc::AllocError;
 
 /// What a change of settings needs of memory, taken before anything is changed: the settings, and
@@ -75,10 +75,10 @@ impl Living {
 }
 
 // A bucket with a live or noncurrent version stays.
-fn not_empty(rows: &[Row]) -> Option<Reason>
-    ensures { result ≡ empty_refusal rows.now }
+fn not_empty(rows: &Versions) -> Option<Reason>
+    ensures { result ≡ empty_refusal rows.now.rows }
 {
-    if has_readable(rows) {
+    if rows.has_readable() {
         Some(Reason::NotEmpty)
     } else {
         None

@@ -9,7 +9,8 @@ use crate::slots::{find_slot, step_slots};
 use gcs_chunks::Chunks;
 use gcs_meaning::{Answer, BucketName, Command, Entry};
 use std::alloc::Global;
-use std::marker::Model;
+use std::marker::{Brand, Model};
+use std::sync::ledger::Blank;
 
 // A history stays below 2^59 entries, so that no number of a slot wraps.
 const MOST_ENTRIES: usize = 0x07FF_FFFF_FFFF_FFFF;
@@ -83,7 +84,8 @@ impl<'c> Shard<'c> {
         if self.history.len() >= MOST_ENTRIES || self.history.reserve(1).is_err() {
             return Err(command);
         }
-        match step_slots(&mut self.slots, moment, &command, self.chunks) {
+        let blank = Blank::new(1);
+        match step_slots::<Brand>(blank, &mut self.slots, moment, &command, self.chunks) {
             Ok(answer) => {
                 push_entry(
                     &mut self.history,

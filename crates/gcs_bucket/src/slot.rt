@@ -1,15 +1,16 @@
 //! The fields of a bucket's slot, and the one call on them.
-ghost use Rattle.std.specs.Prelude.{◌≡◌, ◌≤◌, IfOk, OnErr, vec_len, vec_capacity};
+ghost use Rattle.std.specs.Prelude.{◌≡◌, ◌≤◌, ◌+◌, IfOk, OnErr, false, vec_len, vec_capacity};
 ghost use Rattle.gcs_meaning.specs.Aging.{aged};
 ghost use Rattle.gcs_meaning.specs.Slot.{fresh_slot};
-ghost use Rattle.gcs_meaning.specs.Step.{step, IsBuilt};
-ghost use Rattle.gcs_bucket.specs.Commands.{IsOnVersion};
+ghost use Rattle.gcs_meaning.specs.Step.{step, IsOnSlot};
+ghost use Rattle.gcs_bucket.specs.Commands.{is_list, IsOnVersion};
 ghost use Rattle.gcs_bucket.specs.Slot.{IsReady, value_of};
 
 use crate::graves::{Grave, age_graves};
 use crate::living::Living;
-use gcs_meaning::{Answer, Command};
+use gcs_meaning::{Answer, Command, Steps};
 use std::alloc::{AllocError, Global};
+use std::sync::ledger::Ledger;
 
 /// The fields of a slot. The deleted buckets and the four numbers outlive the deletion of its bucket.
 #[derive(Drop)]
@@ -40,11 +41,17 @@ impl Slot {
     }
 
     /// One command, whose request took this reading. `Err`: no memory, and nothing is changed.
-    pub fn apply(&mut self, reading: u64, command: &Command) -> Result<Answer, AllocError>
+    pub fn apply<L: Ledger>(
+        &mut self,
+        reading: u64,
+        command: &Command,
+        steps: &mut Steps<L>,
+    ) -> Result<Answer, AllocError>
         requires ready { IsReady (value_of self.old) }
-        requires built { IsBuilt command.now }
+        requires built { IsOnSlot command.now }
         ensures done { IfOk result (λ answer. step (value_of self.old) reading command.now ≡ (answer, value_of self.new)) }
         ensures err { OnErr result (value_of self.new ≡ value_of self.old) }
+        ensures cost { is_list command.now ≡ false → steps.new ≤ steps.old + 2 }
     {
         match command {
             Command::BucketInsert { bucket, settings } => self.insert(reading, bucket, settings),
@@ -56,16 +63,23 @@ impl Slot {
                 whole,
             } => self.change_bucket(reading, bucket, pre, change, *whole),
             Command::BucketDelete { bucket: _, pre } => self.delete_bucket(reading, pre),
-            _ => self.apply_to_version(reading, command),
+            Command::List { bucket: _, query } => self.list(reading, query, steps),
+            _ => self.apply_to_version(reading, command, steps),
         }
     }
 
     // A command on a version.
-    fn apply_to_version(&mut self, reading: u64, command: &Command) -> Result<Answer, AllocError>
+    fn apply_to_version<L: Ledger>(
+        &mut self,
+        reading: u64,
+        command: &Command,
+        steps: &mut Steps<L>,
+    ) -> Result<Answer, AllocError>
         requires ready { IsReady (value_of self.old) }
         requires on { IsOnVersion command.now }
         ensures done { IfOk result (λ answer. step (value_of self.old) reading command.now ≡ (answer, value_of self.new)) }
         ensures err { OnErr result (value_of self.new ≡ value_of self.old) }
+        ensures cost { steps.new ≤ steps.old + 2 }
     {
         match command {
             Command::Get {
@@ -74,7 +88,7 @@ impl Slot {
                 generation,
                 soft,
                 pre,
-            } => self.get(reading, name, *generation, *soft, pre),
+            } => self.get(reading, name, *generation, *soft, pre, steps),
             Command::Change {
                 bucket: _,
                 name,
@@ -82,13 +96,13 @@ impl Slot {
                 pre,
                 change,
                 whole,
-            } => self.change(reading, name, *generation, pre, change, *whole),
+            } => self.change(reading, name, *generation, pre, change, *whole, steps),
             Command::Delete {
                 bucket: _,
                 name,
                 generation,
                 pre,
-            } => Ok(self.delete(reading, name, *generation, pre)),
+            } => self.delete(reading, name, *generation, pre, steps),
             Command::Put {
                 bucket: _,
                 name,
@@ -97,7 +111,7 @@ impl Slot {
                 hashed,
                 components,
                 expect,
-            } => self.put(reading, name, pre, meta, hashed, *components, expect),
+            } => self.put(reading, name, pre, meta, hashed, *components, expect, steps),
             _ => unreachable!(),
         }
     }

@@ -3,14 +3,16 @@ ghost use Rattle.std.specs.Prelude.{◌≡◌, ◌≤◌, ◌<◌, IfOk, IfErr, 
 ghost use Rattle.std.specs.Option.{option_copied};
 ghost use Rattle.gcs_meaning.specs.History.{first_step, shard_step, slot_of};
 ghost use Rattle.gcs_meaning.specs.Slot.{fresh_slot};
-ghost use Rattle.gcs_meaning.specs.Step.{step, IsBuilt};
+ghost use Rattle.gcs_meaning.specs.Step.{step, IsBuilt, IsOnSlot};
 ghost use Rattle.gcs_bucket.specs.Shard.{AreSmall, IsGapAt, IsSlotAt, IsSteppedAt};
 
 use crate::bucket::Bucket;
+use crate::bucket_lists::answer_unnamed;
 use gcs_chunks::Chunks;
-use gcs_meaning::{Answer, BucketName, Command, Copied, Reason};
+use gcs_meaning::{Answer, BucketName, Command, Copied, Reason, Steps};
 use std::alloc::{AllocError, Global};
 use std::cmp::Ordering;
+use std::sync::ledger::{Blank, Ledger};
 
 /// The slot of a name.
 pub fn find_slot<'a>(slots: &'a [(BucketName, Bucket)], name: &BucketName) -> Option<&'a Bucket>
@@ -22,25 +24,31 @@ pub fn find_slot<'a>(slots: &'a [(BucketName, Bucket)], name: &BucketName) -> Op
     }
 }
 
-/// One command on the slots. `Err`: no memory, and they stay as they were.
+/// One command on the slots, whose steps are counted on a new ledger. `Err`: no memory, and the
+/// slots stay as they were.
 #[tactic(auto, unfolding(gcs_meaning::specs::History::shard_step))]
-pub fn step_slots(
+pub fn step_slots<L: Ledger>(
+    blank: Blank,
     slots: &mut Vec<(BucketName, Bucket)>,
     moment: u64,
     command: &Command,
     chunks: &Chunks,
 ) -> Result<Answer, AllocError>
+    requires name { blank.name ≡ L.name }
+    requires parts { blank.parts ≡ L.parts }
+    requires some { 0 < blank.parts }
     requires small { AreSmall slots.old.items }
     requires built { IsBuilt command.now }
     ensures done { IfOk result (λ answer. shard_step slots.old.items moment command.now ≡ (answer, slots.new.items)) }
     ensures err { OnErr result (slots.new.items ≡ slots.old.items) }
 {
     let Some(name) = command.bucket() else {
-        unreachable!()
+        return answer_unnamed(*slots.allocator(), slots, command);
     };
+    let mut steps = Steps::<L>::new(blank);
     match place_of(slots, name) {
-        Ok(place) => step_at(slots, place, moment, command, chunks),
-        Err(place) => first_at(slots, place, name, moment, command, chunks),
+        Ok(place) => step_at(slots, place, moment, command, chunks, &mut steps),
+        Err(place) => first_at(slots, place, name, moment, command, chunks, &mut steps),
     }
 }
 
@@ -59,41 +67,50 @@ fn place_of(slots: &[(BucketName, Bucket)], name: &BucketName) -> Result<usize, 
     Err(slots.len())
 }
 
-fn step_at(
+fn step_at<L: Ledger>(
     slots: &mut Vec<(BucketName, Bucket)>,
     place: usize,
     moment: u64,
     command: &Command,
     chunks: &Chunks,
+    steps: &mut Steps<L>,
 ) -> Result<Answer, AllocError>
     requires place { place < length slots.old.items }
     requires small { AreSmall slots.old.items }
-    requires built { IsBuilt command.now }
+    requires built { IsOnSlot command.now }
     ensures done { IfOk result (λ answer. IsSteppedAt place moment command.now slots.old.items answer slots.new.items) }
     ensures err { OnErr result (slots.new.items ≡ slots.old.items) }
 {
     let entry = &mut slots[place];
-    entry.1.apply(moment, command, chunks)
+    entry.1.apply(moment, command, chunks, steps)
 }
 
 // The first command on a name, whose place is given. Only an insert makes a slot.
-fn first_at(
+fn first_at<L: Ledger>(
     slots: &mut Vec<(BucketName, Bucket)>,
     place: usize,
     name: &BucketName,
     moment: u64,
     command: &Command,
     chunks: &Chunks,
+    steps: &mut Steps<L>,
 ) -> Result<Answer, AllocError>
     requires gap { IsGapAt name.now slots.old.items place }
-    requires built { IsBuilt command.now }
+    requires built { IsOnSlot command.now }
     ensures done { IfOk result (λ answer. first_step name.now slots.old.items moment command.now ≡ (answer, slots.new.items)) }
     ensures err { OnErr result (slots.new.items ≡ slots.old.items) }
 {
     match command {
         Command::BucketInsert { .. } => {
             slots.reserve(1)?;
-            let (answer, slot) = make_slot(*slots.allocator(), name, moment, command, chunks)?;
+            let (answer, slot) = make_slot(
+                *slots.allocator(),
+                name,
+                moment,
+                command,
+                chunks,
+                steps,
+            )?;
             insert_slot(slots, place, slot);
             Ok(answer)
         }
@@ -102,20 +119,21 @@ fn first_at(
 }
 
 // A name with its slot after a first command.
-fn make_slot(
+fn make_slot<L: Ledger>(
     alloc: Global,
     name: &BucketName,
     moment: u64,
     command: &Command,
     chunks: &Chunks,
+    steps: &mut Steps<L>,
 ) -> Result<(Answer, (BucketName, Bucket)), AllocError>
-    requires { IsBuilt command.now }
+    requires { IsOnSlot command.now }
     ensures name { IfOk result (λ made. made.1.0 ≡ name.now) }
     ensures done { IfOk result (λ made. step fresh_slot moment command.now ≡ (made.0, made.1.1)) }
 {
     let name = name.copy()?;
     let mut bucket = Bucket::new(alloc);
-    let answer = bucket.apply(moment, command, chunks)?;
+    let answer = bucket.apply(moment, command, chunks, steps)?;
     Ok((answer, (name, bucket)))
 }
 

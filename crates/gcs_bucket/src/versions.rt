@@ -1,27 +1,38 @@
 //! The change of a version's metadata, and its deletion, in a bucket that is alive.
-ghost use Rattle.std.specs.Prelude.{◌≡◌, ◌≤◌, ◌<◌, ◌^◌, IfOk, Some, is_some};
+ghost use Rattle.std.specs.Prelude.{◌≡◌, ◌≤◌, ◌<◌, ◌+◌, ◌^◌, IfOk, OnOk, Some, is_some};
 ghost use Rattle.std.specs.List.{AllByRecursion};
+ghost use Rattle.std.specs.Option.{option_map};
+ghost use Rattle.gcs_meaning.specs.declared.command.Answer.TheVariants.{Object};
 ghost use Rattle.gcs_meaning.specs.Choosing.{chosen_row};
 ghost use Rattle.gcs_meaning.specs.Deletes.{delete_found, delete_refusal, delete_state};
-ghost use Rattle.gcs_meaning.specs.ObjectChanges.{change_found, change_refusal, change_state, changed_meta, changed_row, is_released};
+ghost use Rattle.gcs_meaning.specs.ObjectChanges.{change_found, change_refusal, changed_meta, changed_row, is_released};
 ghost use Rattle.gcs_meaning.specs.Policy.{AreInLimits};
 ghost use Rattle.gcs_meaning.specs.Slot.{Slot, State};
+ghost use Rattle.gcs_versions.specs.Kept.{IsReadyToPut, IsReadyToRetire};
 ghost use Rattle.gcs_bucket.specs.Living.{AreEarly, IsEarly, state_of};
-ghost use Rattle.gcs_bucket.specs.Prepared.{Makes, decided};
+ghost use Rattle.gcs_bucket.specs.Prepared.{decided, with_changed, IsChangeOf, IsInPlace, MakesChange};
 
 use crate::choosing::find_chosen;
 use crate::living::Living;
-use crate::puts::Prepared;
 use crate::refusals::{earlier_time, failed_precondition, kept_version, too_much_custom};
-use crate::rows::{replace_row, retire_row};
-use gcs_meaning::{Answer, Copied, Meta, MetaChange, Name, Pre, Reason, Row, Settings};
+use gcs_meaning::{Answer, Copied, Meta, MetaChange, Name, Pre, Reason, Row, Settings, Steps};
 use gcs_policy::retire;
 use std::alloc::AllocError;
+use std::sync::ledger::Ledger;
+
+/// What the change of a version needs of memory, taken before anything is changed: its metadata,
+/// the version as it is shown with them, and the settings.
+#[derive(Drop)]
+pub struct Changed {
+    pub meta: Meta,
+    pub shown: Row,
+    pub settings: Settings,
+}
 
 impl Living {
     /// Decides on the change of a version's metadata at `moment`: it is refused, or this is what it
-    /// makes. `Err`: no memory.
-    pub fn decide_change(
+    /// makes. `Err`: no memory. One step.
+    pub fn decide_change<L: Ledger>(
         &self,
         moment: u64,
         name: &Name,
@@ -29,11 +40,15 @@ impl Living {
         pre: &Pre,
         change: &MetaChange,
         whole: bool,
-    ) -> Result<Result<Prepared, Reason>, AllocError>
-        requires { AllByRecursion (λ row. row.metageneration ≤ 2 ^ 62) self.now.rows.items }
-        ensures { IfOk result (λ decision. (slot : Slot) → (s : State) → s.settings ≡ self.now.settings → change_found (chosen_row name.now generation self.now.rows.items) slot s moment name.now generation pre.now change.now whole ≡ decided decision slot s name.now generation) }
+        steps: &mut Steps<L>,
+    ) -> Result<Result<Changed, Reason>, AllocError>
+        requires { AllByRecursion (λ row. row.metageneration ≤ 2 ^ 62) self.now.rows.rows }
+        ensures decided { IfOk result (λ decision. (slot : Slot) → (s : State) → s.settings ≡ self.now.settings → change_found (chosen_row name.now generation self.now.rows.rows) slot s moment name.now generation pre.now change.now whole ≡ decided decision slot s name.now generation) }
+        ensures change { IfOk result (λ decision. IfOk decision (λ made. IsChangeOf made name.now generation moment self.now.rows.rows)) }
+        ensures cost { steps.new ≡ steps.old + 1 }
     {
-        let Some(row) = find_chosen(&self.rows, name, generation) else {
+        self.rows.known();
+        let Some(row) = find_chosen(&self.rows, name, generation, steps) else {
             return Ok(Err(Reason::NoObject));
         };
         let meta = change.applied(&row.meta, whole)?;
@@ -43,41 +58,73 @@ impl Living {
         Ok(Ok(prepare_change(&self.settings, moment, row, meta)?))
     }
 
-    /// Puts a version that was changed in its place.
-    #[tactic(auto, unfolding(gcs_meaning::specs::ObjectChanges::change_state))]
-    pub fn replace(&mut self, name: &Name, generation: Option<u64>, row: Row)
-        ensures { state_of self.new ≡ change_state (state_of self.old) name.now generation row }
+    /// Gives the version that was decided on its new metadata, and answers with it.
+    pub fn replace(&mut self, moment: u64, name: &Name, made: Changed) -> Answer
+        requires { IsInPlace made name.now moment self.old.rows.rows }
+        ensures state { state_of self.new ≡ with_changed (state_of self.old) name.now made.shown }
+        ensures answer { result ≡ Object made.shown made.settings }
     {
-        replace_row(&mut self.rows, name, generation, row);
+        let Changed {
+            meta,
+            shown,
+            settings,
+        } = made;
+        self.rows.change(name, shown.generation, meta, shown.retention_start, moment);
+        Answer::Object(shown, settings)
     }
 
-    /// Deletes a version at `moment`, unless a test fails.
-    pub fn delete(&mut self, moment: u64, name: &Name, generation: Option<u64>, pre: &Pre) -> Answer
+    /// Takes the memory of a deletion, and changes nothing that is seen. `Err`: no memory.
+    pub fn prepare_delete(&mut self, name: &Name) -> Result<(), AllocError>
+        ensures state { state_of self.new ≡ state_of self.old }
+        ensures settings { self.new.settings ≡ self.old.settings }
+        ensures retire { OnOk result (IsReadyToRetire name.now self.new.rows) }
+    {
+        self.rows.prepare(name)?;
+        Ok(())
+    }
+
+    /// Deletes a version at `moment`, unless a test fails. It was prepared. One step.
+    pub fn delete<L: Ledger>(
+        &mut self,
+        moment: u64,
+        name: &Name,
+        generation: Option<u64>,
+        pre: &Pre,
+        steps: &mut Steps<L>,
+    ) -> Answer
         requires limits { AreInLimits self.old.settings }
-        requires early { AreEarly self.old.rows.items }
+        requires early { AreEarly self.old.rows.rows }
         requires moment { moment < 2 ^ 62 }
-        ensures { (slot : Slot) → slot.alive ≡ Some (state_of self.old) → delete_found (chosen_row name.now generation self.old.rows.items) slot (state_of self.old) moment name.now generation pre.now ≡ (result, record slot { alive = Some (state_of self.new) }) }
+        requires retire { IsReadyToRetire name.now self.old.rows }
+        ensures done { (slot : Slot) → slot.alive ≡ Some (state_of self.old) → delete_found (chosen_row name.now generation self.old.rows.rows) slot (state_of self.old) moment name.now generation pre.now ≡ (result, record slot { alive = Some (state_of self.new) }) }
+        ensures cost { steps.new ≡ steps.old + 1 }
     {
         let named = generation.is_some();
-        let Some(row) = find_chosen(&self.rows, name, generation) else {
+        let Some(row) = find_chosen(&self.rows, name, generation, steps) else {
             return Answer::Refused(Reason::NoObject);
         };
         if let Some(reason) = deletion_refusal(&self.settings, moment, named, pre, row) {
             return Answer::Refused(reason);
         }
-        self.remove(moment, name, generation);
+        let found = row.generation;
+        self.remove(moment, name, generation, found);
         Answer::Empty
     }
 
-    // Retires the version that a deletion names.
+    /// Retires the version of the generation `found`, which is there as the one that was asked for.
     #[tactic(auto, unfolding(gcs_meaning::specs::Deletes::delete_state))]
-    fn remove(&mut self, moment: u64, name: &Name, generation: Option<u64>)
+    pub fn remove(&mut self, moment: u64, name: &Name, asked: Option<u64>, found: u64)
         requires limits { AreInLimits self.old.settings }
         requires moment { moment < 2 ^ 62 }
-        ensures { state_of self.new ≡ delete_state (state_of self.old) moment name.now generation }
+        requires retire { IsReadyToRetire name.now self.old.rows }
+        requires found { option_map (λ row. row.generation) (chosen_row name.now asked self.old.rows.rows) ≡ Some found }
+        ensures state { state_of self.new ≡ delete_state (state_of self.old) moment name.now asked }
+        ensures settings { self.new.settings ≡ self.old.settings }
+        ensures put { IsReadyToPut name.now self.old.rows → IsReadyToPut name.now self.new.rows }
     {
-        let to = retire(&self.settings, moment, generation.is_some());
-        retire_row(&mut self.rows, to, moment, name, generation);
+        self.rows.known();
+        let to = retire(&self.settings, moment, asked.is_some());
+        self.rows.retire(name, found, to, moment);
     }
 }
 
@@ -91,27 +138,26 @@ fn change_refusal(pre: &Pre, row: &Row, meta: &Meta) -> Option<Reason>
         .or_else(|| too_much_custom(&meta.custom))
 }
 
-// The version with other metadata, its copy and the settings. `Err`: no memory.
+// The version with other metadata, and the settings. `Err`: no memory.
 fn prepare_change(
     settings: &Settings,
     moment: u64,
     row: &Row,
     meta: Meta,
-) -> Result<Prepared, AllocError>
+) -> Result<Changed, AllocError>
     requires { row.now.metageneration ≤ 2 ^ 62 }
-    ensures { IfOk result (λ made. Makes made settings.now (changed_row moment meta row.now)) }
+    ensures { IfOk result (λ made. MakesChange made settings.now (changed_row moment meta row.now)) }
 {
-    let mut made = row.copy()?;
-    made.metageneration = row.metageneration + 1;
-    made.updated = moment;
+    let mut shown = row.copy()?;
+    shown.metageneration = row.metageneration + 1;
+    shown.updated = moment;
     if releases(&row.meta, &meta) {
-        made.retention_start = moment;
+        shown.retention_start = moment;
     }
-    made.meta = meta;
-    let shown = made.copy()?;
+    shown.meta = meta.copy()?;
     let settings = settings.copy()?;
-    Ok(Prepared {
-        row: made,
+    Ok(Changed {
+        meta,
         shown,
         settings,
     })

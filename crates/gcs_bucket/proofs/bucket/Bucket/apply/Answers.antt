@@ -1,14 +1,15 @@
+use Rattle.gcs_bucket.proofs.Listed.{built_of}
 use Rattle.gcs_bucket.proofs.Sound.{ready_when, sound_after}
 use Rattle.gcs_bucket.proofs.bucket.Bucket.apply.Goals as goal
 
 pub apply-requires-clause-ready : goal.apply-requires-clause-ready
-apply-requires-clause-ready c = ready_when _ c.self.invariant (rw (← c.self.view_is) at c.requires.small)
+apply-requires-clause-ready g c = ready_when _ c.self.invariant (rw (← c.self.view_is) at c.requires.small)
 
 pub invariant_of-self : goal.invariant_of-self
-invariant_of-self c =
-    sound_after c.apply.result _ _ _ _ c.requires.built c.self.invariant c.apply.ensures.done c.apply.ensures.err
+invariant_of-self g c =
+    sound_after c.apply.result _ _ _ _ (built_of _ c.requires.built) c.self.invariant c.apply.ensures.done c.apply.ensures.err
 
 pub returns-clause-fit : goal.returns-clause-fit
-returns-clause-fit c =
-    let sound = sound_after c.apply.result _ _ _ _ c.requires.built c.self.invariant c.apply.ensures.done c.apply.ensures.err in
+returns-clause-fit g c =
+    let sound = sound_after c.apply.result _ _ _ _ (built_of _ c.requires.built) c.self.invariant c.apply.ensures.done c.apply.ensures.err in
     sound.fit

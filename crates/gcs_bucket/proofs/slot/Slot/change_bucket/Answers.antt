@@ -1,7 +1,7 @@
-use Rattle.std.proofs.Common.{ap, arith}
+use Rattle.std.proofs.Common.{ap}
 use Rattle.gcs_bucket.specs.Living.{alive_of}
 use Rattle.gcs_bucket.specs.Slot.{value_of}
-use Rattle.gcs_bucket.proofs.Steps.{bucket_change_dead, bucket_change_refused, bucket_change_done}
+use Rattle.gcs_bucket.proofs.Commands.{bucket_change_dead, bucket_change_refused, bucket_change_done}
 use Rattle.gcs_bucket.proofs.slot.Slot.change_bucket.Goals as goal
 
 pub returns-in_default-clause-done : goal.returns-in_default-clause-done

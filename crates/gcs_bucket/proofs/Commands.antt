@@ -1,5 +1,5 @@
 -- What the commands give, along the steps of the calls on a slot.
-use Rattle.std.proofs.Common.{◌≡◌, ℕ, Bool, List, [], Option, Some, None, Result, Ok, Err, refl, ap, sym, ◌∙◌}
+use Rattle.std.proofs.Common.{◌≡◌, ℕ, Bool, List, Option, Some, None, Result, Ok, Err, refl, ap, sym, ◌∙◌}
 use Rattle.gcs_meaning.specs.declared.changes.MetaChange.{MetaChange}
 use Rattle.gcs_meaning.specs.declared.changes.SettingsChange.{SettingsChange}
 use Rattle.gcs_meaning.specs.declared.settings.Pre.{Pre}
@@ -19,12 +19,13 @@ use Rattle.gcs_meaning.specs.Aging.{aged, aged_state, aged_graves}
 use Rattle.gcs_meaning.specs.Buckets.{bucket_row}
 use Rattle.gcs_meaning.specs.BucketChanges.{bucket_change_refusal, bucket_change_state, bucket_change_step, changed_settings}
 use Rattle.gcs_meaning.specs.Choosing.{chosen_row, live_row}
-use Rattle.gcs_meaning.specs.Deletes.{delete_found, delete_on, delete_step}
-use Rattle.gcs_meaning.specs.ObjectChanges.{change_found, change_state, change_step}
+use Rattle.gcs_meaning.specs.Deletes.{delete_found, delete_step}
+use Rattle.gcs_meaning.specs.ObjectChanges.{change_found, change_step}
 use Rattle.gcs_meaning.specs.Put.{put_refusal, put_state, put_step, new_row}
 use Rattle.gcs_meaning.proofs.Chosen.{chosen_row-aged}
-use Rattle.gcs_bucket.specs.declared.puts.Prepared.{Prepared}
-use Rattle.gcs_bucket.specs.Prepared.{decided}
+use Rattle.gcs_bucket.specs.declared.versions.Changed.{Changed}
+use Rattle.gcs_bucket.specs.Prepared.{decided, with_changed, IsChangeOf}
+use Rattle.gcs_bucket.proofs.Removed.{replaced}
 
 abbrev pub slot_with : Option State → List Grave → ℕ → ℕ → ℕ → ℕ → Slot
 slot_with alive graves moment object bucket upload = record { alive = alive; graves = graves; last_moment = moment; last_object = object; last_bucket = bucket; next_upload = upload }
@@ -41,7 +42,7 @@ unfolding change_step
 change_dead slot t name generation pre change whole dead = rw dead refl
 
 pub delete_dead : (slot : Slot) (t : ℕ) (name : List ℕ) (generation : Option ℕ) (pre : Pre)
-    → slot.alive ≡ None → delete_step slot t name generation pre ≡ (Refused NoBucket, slot)
+    → slot.alive ≡ None → delete_step (aged slot t) t name generation pre ≡ (Refused NoBucket, aged slot t)
 unfolding delete_step
 delete_dead slot t name generation pre dead = rw dead refl
 
@@ -87,7 +88,7 @@ aged_found : (t : ℕ) (name : List ℕ) (generation : Option ℕ) (s : State) �
 unfolding aged_state
 aged_found t name generation s = chosen_row-aged t name generation s.rows
 
-change_decided : (alive : Option State) (graves kept : List Grave) (m o b u t : ℕ) (name : List ℕ) (generation : Option ℕ) (pre : Pre) (change : MetaChange) (whole : Bool) (before state : State) (decision : Result Prepared Reason)
+change_decided : (alive : Option State) (graves kept : List Grave) (m o b u t : ℕ) (name : List ℕ) (generation : Option ℕ) (pre : Pre) (change : MetaChange) (whole : Bool) (before state : State) (decision : Result Changed Reason)
     → alive ≡ Some before → state ≡ aged_state t before → kept ≡ aged_graves t graves
     → ((slot : Slot) (s : State) → s.settings ≡ before.settings → change_found (chosen_row name generation before.rows) slot s t name generation pre change whole ≡ decided decision slot s name generation)
     → change_step (aged (slot_with alive graves m o b u) t) t name generation pre change whole ≡ decided decision (slot_with (Some state) kept t o b u) state name generation
@@ -97,7 +98,7 @@ change_decided alive graves kept m o b u t name generation pre change whole befo
     let same : chosen_row name generation state.rows ≡ chosen_row name generation before.rows = ap (λ (s : State). chosen_row name generation s.rows) is ∙ aged_found t name generation before in
     rw (lives, ← is, ← kept-is, same) (found (slot_with (Some state) kept t o b u) state from)
 
-pub change_refused : (alive : Option State) (graves kept : List Grave) (m o b u t : ℕ) (name : List ℕ) (generation : Option ℕ) (pre : Pre) (change : MetaChange) (whole : Bool) (before state : State) (decision : Result Prepared Reason) (reason : Reason)
+pub change_refused : (alive : Option State) (graves kept : List Grave) (m o b u t : ℕ) (name : List ℕ) (generation : Option ℕ) (pre : Pre) (change : MetaChange) (whole : Bool) (before state : State) (decision : Result Changed Reason) (reason : Reason)
     → alive ≡ Some before → state ≡ aged_state t before → kept ≡ aged_graves t graves
     → ((slot : Slot) (s : State) → s.settings ≡ before.settings → change_found (chosen_row name generation before.rows) slot s t name generation pre change whole ≡ decided decision slot s name generation)
     → decision ≡ Err reason
@@ -106,24 +107,25 @@ change_refused alive graves kept m o b u t name generation pre change whole befo
     change_decided alive graves kept m o b u t name generation pre change whole before state decision lives is kept-is found
     ∙ ap (λ decision. decided decision (slot_with (Some state) kept t o b u) state name generation) refused
 
-pub change_made : (alive : Option State) (graves kept : List Grave) (m o b u t : ℕ) (name : List ℕ) (generation : Option ℕ) (pre : Pre) (change : MetaChange) (whole : Bool) (before state after : State) (decision : Result Prepared Reason) (made : Prepared)
+pub change_made : (alive : Option State) (graves kept : List Grave) (m o b u t : ℕ) (name : List ℕ) (generation : Option ℕ) (pre : Pre) (change : MetaChange) (whole : Bool) (before state after : State) (decision : Result Changed Reason) (made : Changed) (answer : Answer)
     → alive ≡ Some before → state ≡ aged_state t before → kept ≡ aged_graves t graves
     → ((slot : Slot) (s : State) → s.settings ≡ before.settings → change_found (chosen_row name generation before.rows) slot s t name generation pre change whole ≡ decided decision slot s name generation)
-    → decision ≡ Ok made → after ≡ change_state state name generation made.row
-    → change_step (aged (slot_with alive graves m o b u) t) t name generation pre change whole ≡ (Object made.shown made.settings, slot_with (Some after) kept t o b u)
-change_made alive graves kept m o b u t name generation pre change whole before state after decision made lives is kept-is found allowed after-is =
+    → decision ≡ Ok made → IsChangeOf made name generation t before.rows → after ≡ with_changed state name made.shown → answer ≡ Object made.shown made.settings
+    → change_step (aged (slot_with alive graves m o b u) t) t name generation pre change whole ≡ (answer, slot_with (Some after) kept t o b u)
+change_made alive graves kept m o b u t name generation pre change whole before state after decision made answer lives is kept-is found allowed of after-is answer-is =
     change_decided alive graves kept m o b u t name generation pre change whole before state decision lives is kept-is found
     ∙ ap (λ decision. decided decision (slot_with (Some state) kept t o b u) state name generation) allowed
-    ∙ ap (λ s. (Object made.shown made.settings, slot_with (Some s) kept t o b u)) (sym after-is)
+    ∙ ap (λ s. (Object made.shown made.settings, slot_with (Some s) kept t o b u)) (sym (after-is ∙ replaced made name generation t before state is of))
+    ∙ ap (λ told. (told, slot_with (Some after) kept t o b u)) (sym answer-is)
 
--- a deletion, on a slot that is aged
-pub delete_done : (slot : Slot) (t : ℕ) (name : List ℕ) (generation : Option ℕ) (pre : Pre) (before after : State) (answer : Answer)
-    → slot.alive ≡ Some before
-    → ((any : Slot) → any.alive ≡ Some before → delete_found (chosen_row name generation before.rows) any before t name generation pre ≡ (answer, record any { alive = Some after }))
-    → delete_step slot t name generation pre ≡ (answer, record slot { alive = Some after })
+-- a deletion, after ageing
+pub delete_done : (alive : Option State) (graves kept : List Grave) (m o b u t : ℕ) (name : List ℕ) (generation : Option ℕ) (pre : Pre) (before state after : State) (answer : Answer)
+    → alive ≡ Some before → state ≡ aged_state t before → kept ≡ aged_graves t graves
+    → ((any : Slot) → any.alive ≡ Some state → delete_found (chosen_row name generation state.rows) any state t name generation pre ≡ (answer, record any { alive = Some after }))
+    → delete_step (aged (slot_with alive graves m o b u) t) t name generation pre ≡ (answer, slot_with (Some after) kept t o b u)
 unfolding delete_step
-delete_done slot t name generation pre before after answer lives found =
-    ap (λ alive. delete_on alive slot t name generation pre) lives ∙ found slot lives
+delete_done alive graves kept m o b u t name generation pre before state after answer lives is kept-is found =
+    rw (lives, ← is, ← kept-is) (found (slot_with (Some state) kept t o b u) refl)
 
 -- a put is refused, after ageing
 pub put_refused : (alive : Option State) (graves kept : List Grave) (m o b u t : ℕ) (name : List ℕ) (pre : Pre) (meta : Meta) (hashed : Digested) (components : Option ℕ) (expect : Expect) (before state : State) (reason : Reason)
