@@ -80,7 +80,6 @@ unbuilt_fields =
     key.DefaultEventBasedHold
     ∷ key.RetentionPolicy
     ∷ key.SoftDeletePolicy
-    ∷ key.Versioning
     ∷ []
 
 -- the same, where the object names none of those

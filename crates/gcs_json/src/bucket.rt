@@ -23,11 +23,10 @@ const INSERT: u32 = 1;
 const PATCH: u32 = 4;
 
 // The fields that are not built.
-const UNBUILT: [Key; 4] = [
+const UNBUILT: [Key; 3] = [
     Key::DefaultEventBasedHold,
     Key::RetentionPolicy,
     Key::SoftDeletePolicy,
-    Key::Versioning,
 ];
 
 // In bytes.

@@ -77,9 +77,12 @@ fn unknown_fields_do_not_count_and_of_two_the_last_does(rt: HostRuntime) -> Resu
 fn a_field_that_is_not_built_comes_before_all_others(rt: HostRuntime) -> Result<(), Fail> {
     let alloc = rt.alloc();
     for (row, body) in [
-        (1, r#"{"name":"box","versioning":{"enabled":true}}"#),
-        (1, r#"{"labels":1,"versioning":""}"#),
-        (4, r#"{"versioning":null}"#),
+        (
+            1,
+            r#"{"name":"box","retentionPolicy":{"retentionPeriod":"10"}}"#,
+        ),
+        (1, r#"{"labels":1,"softDeletePolicy":""}"#),
+        (4, r#"{"defaultEventBasedHold":null}"#),
         (4, r#"{"retentionPolicy":{"retentionPeriod":10}}"#),
         (5, r#"{"softDeletePolicy":7}"#),
         (5, r#"{"defaultEventBasedHold":false}"#),
