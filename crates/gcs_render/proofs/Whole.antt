@@ -19,7 +19,7 @@ use Rattle.serde_json.specs.declared.value.Value.{Value}
 use Rattle.serde_json.specs.Written.{has_float, items_have_float, members_have_float}
 use Rattle.gcs_render.specs.Fields.{Field, put_where, with_fields, object_of, text_if, count_if, where_true, time_if, with_pairs, pairs_if, array_if}
 use Rattle.gcs_render.specs.Lists.{object_list, list_fields, list_data, bucket_list, buckets_fields, buckets_data, rewrite_fields, rewrite_data}
-use Rattle.gcs_render.specs.PageTokens.{page_token}
+use Rattle.gcs_meaning.specs.Tokens.{page_token}
 use Rattle.gcs_render.specs.Refusals.{error_data}
 use Rattle.gcs_render.specs.Resources.{noncurrent_since, soft_since, hard_time, retained_until, version_fields, content_fields, meta_fields, state_fields, object_fields, object_data, retention_if, versioning_if, if_whole, whole_value, settings_fields, bucket_fields, bucket_data}
 

@@ -8,7 +8,7 @@ use Rattle.gcs_meaning.specs.declared.settings.Settings.{Settings}
 use Rattle.serde_json.specs.Data.{Data, string}
 use Rattle.gcs_render.specs.Fields.{Field, object_of, text, text_if, long, truth, array_if}
 use Rattle.gcs_render.specs.Resources.{object_data, bucket_data}
-use Rattle.gcs_render.specs.PageTokens.{page_token}
+use Rattle.gcs_meaning.specs.Tokens.{page_token}
 
 -- the resources of these versions
 abbrev pub object_list : List ℕ → List Row → Settings → List Data

@@ -4,7 +4,7 @@ ghost use Rattle.std.specs.Option.{ForSome};
 ghost use Rattle.serde_json.specs.Data.{string};
 ghost use Rattle.serde_json.specs.View.{view};
 ghost use Rattle.serde_json.specs.Written.{has_float};
-ghost use Rattle.gcs_render.specs.PageTokens.{page_token};
+ghost use Rattle.gcs_meaning.specs.Tokens.{page_token};
 ghost use Rattle.gcs_render.specs.Lists.{object_list, bucket_list, list_data, buckets_data, rewrite_data};
 
 use crate::bucket::bucket_value;
