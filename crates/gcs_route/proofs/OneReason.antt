@@ -1,11 +1,11 @@
 -- A refused request has one reason.
-use Rattle.std.proofs.Common.{◌≡◌, ◌≢◌, ℕ, List, [], ◌∷◌, ◌⊎◌, inl, inr, Option, Some, None, sym, ◌∙◌}
+use Rattle.std.proofs.Common.{◌≡◌, ◌≢◌, ℕ, List, [], ◌∷◌, ◌⊎◌, inl, inr, Option, Some, None, sym, ap, ◌∙◌}
 use Rattle.gcs_query.specs.Query.{Pair, pairs_of}
 use Rattle.gcs_query.specs.Values.{IsTrueText}
 use Rattle.gcs_meaning.specs.declared.reason.Key.{Key}
 use Rattle.gcs_meaning.specs.declared.reason.Key.TheVariants as key
 use Rattle.gcs_meaning.specs.declared.reason.Reason.{Reason}
-use Rattle.gcs_meaning.specs.declared.reason.Reason.TheVariants.{Invalid}
+use Rattle.gcs_meaning.specs.declared.reason.Reason.TheVariants.{Invalid, BadMask}
 use Rattle.gcs_route.specs.declared.fault.RouteFault.TheVariants.{Refused}
 use Rattle.gcs_route.specs.declared.table.Param.{Param}
 use Rattle.gcs_route.specs.declared.table.Param.TheVariants.{Alt, SoftOfGet, GenerationOfGet, Generation, If, UploadType, Name, ContentEncoding, Prefix, Delimiter, StartOffset, EndOffset, IncludeTrailingDelimiter, Versions, SoftOfList, MaxResults, PageToken, AltOfDownload, SoftOfDownload, NeededGeneration, NeededMetageneration, SourceGeneration, IfSource, MaxBytesRewrittenPerCall, RewriteToken, UploadId}
@@ -13,7 +13,9 @@ use Rattle.gcs_route.specs.Paths.{segments, path_of, query_of}
 use Rattle.gcs_route.specs.Table.{Row, routes}
 use Rattle.gcs_route.specs.Finding.{find_row}
 use Rattle.gcs_route.specs.Params.{text_at, IsNoNumber, IsNoCount, IsNoFlag, IsNoUpload, Lacks, Wrong, Refuses}
-use Rattle.gcs_route.specs.Refusals.{Test, built, bucket, object, query, param, Fails, FirstFails, tests}
+use Rattle.gcs_route.specs.Masks.{fields_of}
+use Rattle.gcs_route.proofs.OneMask.{one_place}
+use Rattle.gcs_route.specs.Refusals.{Test, built, bucket, object, query, param, mask, Fails, FirstFails, tests}
 use Rattle.gcs_route.specs.Calls.{IsFault, IsFaultBy}
 
 -- a key that is required has no text, or a wrong one
@@ -75,6 +77,7 @@ one_of_test text (bucket name) r s f g = f.0 ∙ sym g.0
 one_of_test text (object name) r s f g = f.0 ∙ sym g.0
 one_of_test text query r s f g = f.0 ∙ sym g.0
 one_of_test text (param p) r s f g = one_of_param (pairs_of text) p r s f g
+one_of_test text mask r s f g = f.1 ∙ ap BadMask (one_place (fields_of (pairs_of text)) f.0 g.0 f.2.1 g.2.1) ∙ sym g.1
 
 -- and the first test that fails
 one_of_first : (text : List ℕ) (ts : List Test) (r s : Reason) → FirstFails text ts r → FirstFails text ts s → r ≡ s

@@ -1,4 +1,4 @@
--- The requests that are served: of which rows, with which keys of a query, and with which ways to upload.
+-- The requests that are served: of which rows, and with which ways to upload.
 use Rattle.std.specs.Prelude.{ℕ, List, [], ◌∷◌, Bool, ◌==◌, ◌&&◌, ◌||◌, not, codes, bytes_eq}
 use Rattle.std.specs.List.{list_any}
 use Rattle.gcs_query.specs.Query.{Pair}
@@ -9,17 +9,7 @@ use Rattle.gcs_route.specs.Pieces.{row_number}
 
 -- the rows that are served
 abbrev pub built_rows : List ℕ
-built_rows = 1 ∷ 3 ∷ 4 ∷ 5 ∷ 6 ∷ 10 ∷ 18 ∷ 21 ∷ []
-
--- the keys with which no row is served
-abbrev pub unbuilt_keys : List (List ℕ)
-unbuilt_keys =
-    codes "fields"
-    ∷ codes "ifGenerationMatch"
-    ∷ codes "ifGenerationNotMatch"
-    ∷ codes "ifMetagenerationMatch"
-    ∷ codes "ifMetagenerationNotMatch"
-    ∷ []
+built_rows = 1 ∷ 2 ∷ 3 ∷ 4 ∷ 5 ∷ 6 ∷ 9 ∷ 10 ∷ 11 ∷ 12 ∷ 13 ∷ 18 ∷ 21 ∷ []
 
 -- the ways to upload that are not served
 abbrev pub unbuilt_uploads : List (List ℕ)
@@ -29,13 +19,8 @@ unbuilt_uploads = codes "multipart" ∷ codes "resumable" ∷ []
 abbrev pub is_among : List (List ℕ) → List ℕ → Bool
 is_among texts text = list_any (λ t. bytes_eq t text) texts
 
--- the query has one of these keys
-abbrev pub has_key_of : List (List ℕ) → List Pair → Bool
-has_key_of keys query = list_any (λ pair. is_among keys pair.0) query
-
 -- a request of that row with this query is not served
 abbrev pub is_unbuilt : List Pair → Row → Bool
 is_unbuilt query row =
     not (list_any (λ n. n == row_number query row) built_rows)
-    || has_key_of unbuilt_keys query
     || ((row_number query row == 18) && is_among unbuilt_uploads (text_at query UploadType))

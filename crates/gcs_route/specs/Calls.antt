@@ -4,12 +4,15 @@ use Rattle.gcs_query.specs.Query.{pairs_of}
 use Rattle.gcs_meaning.specs.declared.reason.Reason.{Reason}
 use Rattle.gcs_meaning.specs.declared.reason.Reason.TheVariants.{NoPath, NoMethod}
 use Rattle.gcs_route.specs.declared.call.Call.{Call}
+use Rattle.gcs_route.specs.declared.call.MaskPart.{MaskPart}
+use Rattle.gcs_route.specs.declared.call.MaskPart.TheVariants.{Absent}
 use Rattle.gcs_route.specs.declared.fault.RouteFault.{RouteFault}
 use Rattle.gcs_route.specs.declared.fault.RouteFault.TheVariants.{Refused, NoMemory}
 use Rattle.gcs_route.specs.Table.{Row, routes}
 use Rattle.gcs_route.specs.Paths.{segments, path_of, query_of}
 use Rattle.gcs_route.specs.Finding.{find_row, has_path}
 use Rattle.gcs_route.specs.Filling.{all_filled}
+use Rattle.gcs_route.specs.Masks.{IsMaskPart, IsSameMask}
 use Rattle.gcs_route.specs.Pieces.{row_number, params_of}
 use Rattle.gcs_route.specs.Refusals.{tests, names_at, AllPass, IsFirstFault}
 
@@ -39,17 +42,19 @@ blank n bs os = record {
   upload_id = None;
   name = None;
   encoding = None;
+  mask = Absent;
 }
 
 -- a call of a row of that number, with the names of its path
 abbrev pub named : ℕ → Row → List (List ℕ) → Call
 named n row segments = blank n (names_at (codes "{bucket}") row.path segments) (names_at (codes "{object}") row.path segments)
 
--- a request of that row whose tests all pass is this call
+-- a request of that row whose tests all pass is this call: its names and parameters, and its mask
 abbrev pub IsCallOf : Row → List (List ℕ) → List ℕ → Call → Type 0
 IsCallOf row segments query call =
     AllPass query (tests row segments query)
-    × (call ≡ all_filled (pairs_of query) (named (row_number (pairs_of query) row) row segments) (params_of (pairs_of query) row))
+    × (part : MaskPart) × IsMaskPart (pairs_of query) row.masking part
+    × (call ≡ record (all_filled (pairs_of query) (named (row_number (pairs_of query) row) row segments) (params_of (pairs_of query) row)) { mask = part })
 
 -- a fault of a request of that row: the reason of its first test that fails, or want of memory
 abbrev pub IsFaultOfRow : Row → List (List ℕ) → List ℕ → RouteFault → Type 0
@@ -73,3 +78,7 @@ IsFaultBy (Some row) segments query fault = IsFaultOfRow row segments query faul
 -- why the request is no call
 abbrev pub IsFault : List ℕ → List ℕ → RouteFault → Type 0
 IsFault method target fault = IsFaultBy (find_row routes method (segments (path_of target))) (segments (path_of target)) (query_of target) fault
+
+-- the same call, up to how the mask is held: all other fields are equal, and the masks are the same
+abbrev pub IsSameCall : Call → Call → Type 0
+IsSameCall call other = (record call { mask = Absent } ≡ record other { mask = Absent }) × IsSameMask call.mask other.mask

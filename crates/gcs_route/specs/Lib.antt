@@ -2,6 +2,7 @@ pub mod Built
 pub mod Calls
 pub mod Filling
 pub mod Finding
+pub mod Masks
 pub mod Params
 pub mod Paths
 pub mod Pieces

@@ -9,19 +9,24 @@ use Rattle.gcs_meaning.specs.declared.reason.Reason.{Reason}
 use Rattle.gcs_meaning.specs.declared.reason.Reason.TheVariants.{NotBuilt, Invalid}
 use Rattle.gcs_route.specs.declared.fault.RouteFault.{RouteFault}
 use Rattle.gcs_route.specs.declared.fault.RouteFault.TheVariants.{Refused, NoMemory}
+use Rattle.gcs_route.specs.declared.table.Masking.{Masking}
+use Rattle.gcs_route.specs.declared.table.Masking.TheVariants.{Unread, Tested, Kept}
 use Rattle.gcs_route.specs.declared.table.Param.{Param}
 use Rattle.gcs_route.specs.Table.{Row}
 use Rattle.gcs_route.specs.Params.{Refuses}
+use Rattle.gcs_route.specs.Masks.{RefusesMask}
 use Rattle.gcs_route.specs.Pieces.{params_of}
 use Rattle.gcs_route.specs.Built.{is_unbuilt}
 
--- a test: that requests of a row are served, of a bucket's name, of an object's name, of the query's text, of a parameter
+-- a test: that requests of a row are served, of a bucket's name, of an object's name, of the query's text, of a
+-- parameter, of the mask
 pub data Test : Type 0 where
   built : Row → Test
   bucket : List ℕ → Test
   object : List ℕ → Test
   query : Test
   param : Param → Test
+  mask : Test
 
 -- the test of a piece of the row's path and the segment that stands there
 abbrev pub name_test : List ℕ → List ℕ → List Test
@@ -36,9 +41,19 @@ name_tests [] ss = []
 name_tests (p ∷ ps) [] = []
 name_tests (p ∷ ps) (s ∷ ss) = name_test p s ++ name_tests ps ss
 
+-- the test of the mask, where the row has it
+abbrev pub mask_tests : Masking → List Test
+mask_tests Unread = []
+mask_tests Tested = mask ∷ []
+mask_tests Kept = []
+
+-- the parameters in the order of the row, and the mask
+abbrev pub value_tests : Row → List ℕ → List Test
+value_tests row text = map param (params_of (pairs_of text) row) ++ mask_tests row.masking
+
 -- all tests of a row, in their order
 abbrev pub tests : Row → List (List ℕ) → List ℕ → List Test
-tests row segments text = built row ∷ name_tests row.path segments ++ query ∷ map param (params_of (pairs_of text) row)
+tests row segments text = built row ∷ name_tests row.path segments ++ query ∷ value_tests row text
 
 -- the test of a request with this query fails for that reason
 abbrev pub Fails : List ℕ → Test → Reason → Type 0
@@ -47,6 +62,7 @@ Fails text (bucket name) reason = (reason ≡ Invalid Bucket) × ¬ IsBucketName
 Fails text (object name) reason = (reason ≡ Invalid Object) × ¬ IsObjectName name
 Fails text query reason = (reason ≡ Invalid Query) × ((n : ℕ) × IsFirstBad text n)
 Fails text (param p) reason = Refuses (pairs_of text) p reason
+Fails text mask reason = RefusesMask (pairs_of text) reason
 
 abbrev pub Passes : List ℕ → Test → Type 0
 Passes text test = (reason : Reason) → Fails text test reason → ⊥

@@ -2,7 +2,7 @@
 ghost use Rattle.std.specs.Prelude.{◌≡◌, map, OnOk, IfOk, IfErr, [], ◌∷◌, ◌++◌};
 ghost use Rattle.gcs_query.specs.Query.{decoded_pair, pairs_of};
 ghost use Rattle.gcs_query.specs.Values.{value_of};
-ghost use Rattle.gcs_route.specs.Built.{built_rows, unbuilt_keys, unbuilt_uploads, is_among, has_key_of, is_unbuilt};
+ghost use Rattle.gcs_route.specs.Built.{built_rows, unbuilt_uploads, is_among, is_unbuilt};
 ghost use Rattle.gcs_route.specs.Pieces.{row_number};
 ghost use Rattle.gcs_route.specs.Refusals.{Passes, IsFirstFault, built};
 ghost use Rattle.gcs_route.specs.Table.{route_of};
@@ -17,19 +17,7 @@ use std::alloc::{AllocError, Global};
 fn built_rows() -> &'static [u32]
     ensures { result.now ≡ built_rows }
 {
-    &[1, 3, 4, 5, 6, 10, 18, 21]
-}
-
-fn unbuilt_keys() -> &'static [&'static str]
-    ensures { map (λ key. key.now) result.now ≡ unbuilt_keys }
-{
-    &[
-        "fields",
-        "ifGenerationMatch",
-        "ifGenerationNotMatch",
-        "ifMetagenerationMatch",
-        "ifMetagenerationNotMatch",
-    ]
+    &[1, 2, 3, 4, 5, 6, 9, 10, 11, 12, 13, 18, 21]
 }
 
 fn unbuilt_uploads() -> &'static [&'static str]
@@ -84,7 +72,6 @@ fn is_unbuilt(pairs: &[(List<u8>, List<u8>)], route: &Route) -> bool
 {
     let row = row_number(pairs, route);
     !built_rows().contains(&row)
-        || has_key_of(pairs, unbuilt_keys())
         || row == 18
             && is_among(
                 unbuilt_uploads(),
@@ -100,18 +87,6 @@ fn row_number(pairs: &[(List<u8>, List<u8>)], route: &Route) -> u32
     } else {
         route.row
     }
-}
-
-// Whether one of the pairs has one of these keys.
-fn has_key_of(pairs: &[(List<u8>, List<u8>)], keys: &[&str]) -> bool
-    ensures { result ≡ has_key_of (map (λ key. key.now) keys.now) pairs.now }
-{
-    for (key, _) in pairs {
-        if is_among(keys, key.as_slice()) {
-            return true;
-        }
-    }
-    false
 }
 
 fn is_among(texts: &[&str], bytes: &[u8]) -> bool

@@ -1,4 +1,5 @@
 //! What a request asks for.
+use gcs_fields::Mask;
 use gcs_meaning::{BucketName, List, Name, Pre, Text};
 
 /// How an upload is made.
@@ -9,6 +10,19 @@ pub enum UploadKind {
     Media,
     Multipart,
     Resumable,
+}
+
+/// The mask of the reply, the parameter `fields`.
+///
+/// Source: Cloud Storage JSON API, "Partial response".
+#[derive(Drop)]
+pub enum MaskPart {
+    /// The query gives none, or the row does not read it.
+    Absent,
+    Is(Mask),
+    /// Of the rows 2, 9 and 15 alone, which test a token before the mask: the text is no mask, and the longest front
+    /// of it that begins some mask has this many bytes.
+    Fault(u32),
 }
 
 /// A row of the interface with its names and parameters. A parameter that the row does not have, or that the query
@@ -51,4 +65,6 @@ pub struct Call {
     pub name: Option<Text>,
     /// `contentEncoding`
     pub encoding: Option<Text>,
+    /// `fields`
+    pub mask: MaskPart,
 }

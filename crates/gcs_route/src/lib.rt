@@ -5,6 +5,7 @@ mod built;
 mod call;
 mod fault;
 mod laws;
+mod masks;
 mod naming;
 mod params;
 mod paths;
@@ -12,7 +13,7 @@ mod routing;
 mod table;
 mod values;
 
-pub use call::{Call, UploadKind};
+pub use call::{Call, MaskPart, UploadKind};
 pub use fault::RouteFault;
 pub use laws::law_one_answer;
 pub use routing::route;

@@ -4,26 +4,29 @@ ghost use Rattle.gcs_query.specs.Query.{pairs_of};
 ghost use Rattle.gcs_route.specs.Calls.{IsCall, IsFault, IsCallOf, IsFaultOfRow, blank, named};
 ghost use Rattle.gcs_route.specs.Refusals.{Passes, IsFirstFault, query, name_tests, AlwaysPass, IsAlwaysFirstFault};
 ghost use Rattle.gcs_route.specs.Filling.{all_filled};
+ghost use Rattle.gcs_route.specs.Masks.{IsMaskPart, IsMaskFault};
 ghost use Rattle.gcs_route.specs.Params.{AllAccepted, IsFirstFaultOf};
 ghost use Rattle.gcs_route.specs.Pieces.{is_piece, row_number, params_of};
 ghost use Rattle.gcs_route.specs.Table.{route_of};
 
 use crate::built::check_built;
-use crate::call::Call;
+use crate::call::{Call, MaskPart};
 use crate::fault::RouteFault;
+use crate::masks::read_fields;
 use crate::naming::read_names;
 use crate::params::read_params;
 use crate::paths::{find_route, has_path, path_of, query_of, segments};
-use crate::table::{Param, Route, all_routes};
+use crate::table::{Masking, Param, Route, all_routes};
 use gcs_meaning::{BucketName, Key, List, Name, Pre, Reason, Text, key_text};
 use gcs_query::{Query, QueryFault, read_query};
 use std::alloc::Global;
 
-/// The call that a request is: its row, names and parameters. `target` is a path and, behind its first `?`, a query.
+/// The call that a request is: its row, names, parameters and mask. `target` is a path and, behind its first `?`, a query.
 ///
 /// `Refused` has the reason of the first test that fails, in this order: a row has the path (`NoPath`), with this method
 /// (`NoMethod`); the request is served (`NotBuilt`); the names of the path (`Invalid`); the query is text once decoded
-/// (`Invalid`); the parameters of the row, in its order (`Required`, `Invalid`).
+/// (`Invalid`); the parameters of the row, in its order (`Required`, `Invalid`); the mask `fields` (`BadMask`), which the
+/// rows 6, 13 and 21 do not read, and which the rows 2, 9 and 15 keep in the call where it is none.
 /// Source: Cloud Storage JSON API, the HTTP requests and parameters of "Buckets" and "Objects".
 pub fn route(alloc: Global, method: &[u8], target: &[u8]) -> Result<Call, RouteFault>
     ensures call { IfOk result (IsCall method.now target.now) }
@@ -54,7 +57,8 @@ fn read_call(
     check_built(alloc, route, query)?;
     let call = named_call(alloc, route, segments)?;
     let query = query_pairs(alloc, query)?;
-    with_params(alloc, &query, call, route)
+    let filled = with_params(alloc, &query, call, route)?;
+    with_mask(alloc, &query, filled, route.masking)
 }
 
 // The call with its names.
@@ -81,6 +85,20 @@ fn with_params(
 {
     call.row = row_number(route, query);
     read_params(alloc, query, &mut call, params_of(route, query))?;
+    Ok(call)
+}
+
+// The call with its mask.
+fn with_mask(
+    alloc: Global,
+    query: &Query,
+    mut call: Call,
+    masking: Masking,
+) -> Result<Call, RouteFault>
+    ensures made { IfOk result (λ made. (part : MaskPart) × IsMaskPart query.now masking part × (made ≡ record call { mask = part })) }
+    ensures wrong { IfErr result (IsMaskFault query.now masking) }
+{
+    call.mask = read_fields(alloc, query, masking)?;
     Ok(call)
 }
 
@@ -154,6 +172,7 @@ fn blank(alloc: Global, row: u32, buckets: List<BucketName>, objects: List<Name>
         upload_id: None,
         name: None,
         encoding: None,
+        mask: MaskPart::Absent,
     }
 }
 

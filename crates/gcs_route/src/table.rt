@@ -4,6 +4,7 @@ ghost use Rattle.gcs_route.specs.Params.{key_of, source_key_of};
 ghost use Rattle.gcs_route.specs.Table.{routes, route_of};
 
 use Condition::{GenerationIs, GenerationNot, MetagenerationIs, MetagenerationNot};
+use Masking::{Kept, Tested, Unread};
 use Param::*;
 use gcs_meaning::Key;
 
@@ -82,6 +83,16 @@ pub(crate) enum Param {
     UploadId,
 }
 
+/// What a row does with `fields`, which is tested behind its parameters.
+#[derive(Clone, Copy, Debug, PartialEq, Eq)]
+pub(crate) enum Masking {
+    Unread,
+    /// A text that is no mask is refused.
+    Tested,
+    /// A text that is no mask stands in the call, since a token of the row is tested before it.
+    Kept,
+}
+
 /// A row of the table. In its path `{bucket}` and `{object}` stand for names.
 #[derive(Clone, Copy)]
 pub(crate) struct Route {
@@ -89,6 +100,7 @@ pub(crate) struct Route {
     pub(crate) method: &'static str,
     pub(crate) path: &'static [&'static str],
     pub(crate) params: &'static [Param],
+    pub(crate) masking: Masking,
 }
 
 // Cloud Storage JSON API, the HTTP requests of "Buckets" and "Objects".
@@ -96,82 +108,82 @@ pub(crate) struct Route {
 static ROUTES: [Route; 21] = [
     Route { row: 1, method: "POST",
         path: &["", "storage", "v1", "b"],
-        params: &[] },
+        params: &[], masking: Tested },
     Route { row: 2, method: "GET",
         path: &["", "storage", "v1", "b"],
-        params: &[Prefix, MaxResults, PageToken] },
+        params: &[Prefix, MaxResults, PageToken], masking: Kept },
     Route { row: 3, method: "GET",
         path: &["", "storage", "v1", "b", "{bucket}"],
-        params: &[If(MetagenerationIs), If(MetagenerationNot)] },
+        params: &[If(MetagenerationIs), If(MetagenerationNot)], masking: Tested },
     Route { row: 4, method: "PATCH",
         path: &["", "storage", "v1", "b", "{bucket}"],
-        params: &[If(MetagenerationIs), If(MetagenerationNot)] },
+        params: &[If(MetagenerationIs), If(MetagenerationNot)], masking: Tested },
     Route { row: 5, method: "PUT",
         path: &["", "storage", "v1", "b", "{bucket}"],
-        params: &[If(MetagenerationIs), If(MetagenerationNot)] },
+        params: &[If(MetagenerationIs), If(MetagenerationNot)], masking: Tested },
     Route { row: 6, method: "DELETE",
         path: &["", "storage", "v1", "b", "{bucket}"],
-        params: &[If(MetagenerationIs), If(MetagenerationNot)] },
+        params: &[If(MetagenerationIs), If(MetagenerationNot)], masking: Unread },
     Route { row: 7, method: "POST",
         path: &["", "storage", "v1", "b", "{bucket}", "lockRetentionPolicy"],
-        params: &[NeededMetageneration] },
+        params: &[NeededMetageneration], masking: Tested },
     Route { row: 8, method: "POST",
         path: &["", "storage", "v1", "b", "{bucket}", "restore"],
-        params: &[NeededGeneration] },
+        params: &[NeededGeneration], masking: Tested },
     Route { row: 9, method: "GET",
         path: &["", "storage", "v1", "b", "{bucket}", "o"],
         params: &[Prefix, Delimiter, StartOffset, EndOffset, IncludeTrailingDelimiter, Versions,
-            SoftOfList, MaxResults, PageToken] },
+            SoftOfList, MaxResults, PageToken], masking: Kept },
     Route { row: 10, method: "GET",
         path: &["", "storage", "v1", "b", "{bucket}", "o", "{object}"],
         params: &[Alt, SoftOfGet, GenerationOfGet, If(GenerationIs), If(GenerationNot),
-            If(MetagenerationIs), If(MetagenerationNot)] },
+            If(MetagenerationIs), If(MetagenerationNot)], masking: Tested },
     Route { row: 11, method: "PATCH",
         path: &["", "storage", "v1", "b", "{bucket}", "o", "{object}"],
         params: &[Generation, If(GenerationIs), If(GenerationNot), If(MetagenerationIs),
-            If(MetagenerationNot)] },
+            If(MetagenerationNot)], masking: Tested },
     Route { row: 12, method: "PUT",
         path: &["", "storage", "v1", "b", "{bucket}", "o", "{object}"],
         params: &[Generation, If(GenerationIs), If(GenerationNot), If(MetagenerationIs),
-            If(MetagenerationNot)] },
+            If(MetagenerationNot)], masking: Tested },
     Route { row: 13, method: "DELETE",
         path: &["", "storage", "v1", "b", "{bucket}", "o", "{object}"],
         params: &[Generation, If(GenerationIs), If(GenerationNot), If(MetagenerationIs),
-            If(MetagenerationNot)] },
+            If(MetagenerationNot)], masking: Unread },
     Route { row: 14, method: "POST",
         path: &["", "storage", "v1", "b", "{bucket}", "o", "{object}", "compose"],
-        params: &[If(GenerationIs), If(MetagenerationIs)] },
+        params: &[If(GenerationIs), If(MetagenerationIs)], masking: Tested },
     Route { row: 15, method: "POST",
         path: &["", "storage", "v1", "b", "{bucket}", "o", "{object}", "rewriteTo", "b", "{bucket}",
             "o", "{object}"],
         params: &[SourceGeneration, IfSource(GenerationIs), IfSource(GenerationNot),
             IfSource(MetagenerationIs), IfSource(MetagenerationNot), If(GenerationIs),
             If(GenerationNot), If(MetagenerationIs), If(MetagenerationNot),
-            MaxBytesRewrittenPerCall, RewriteToken] },
+            MaxBytesRewrittenPerCall, RewriteToken], masking: Kept },
     Route { row: 16, method: "POST",
         path: &["", "storage", "v1", "b", "{bucket}", "o", "{object}", "copyTo", "b", "{bucket}",
             "o", "{object}"],
         params: &[SourceGeneration, IfSource(GenerationIs), IfSource(GenerationNot),
             IfSource(MetagenerationIs), IfSource(MetagenerationNot), If(GenerationIs),
-            If(GenerationNot), If(MetagenerationIs), If(MetagenerationNot)] },
+            If(GenerationNot), If(MetagenerationIs), If(MetagenerationNot)], masking: Tested },
     Route { row: 17, method: "POST",
         path: &["", "storage", "v1", "b", "{bucket}", "o", "{object}", "restore"],
         params: &[NeededGeneration, If(GenerationIs), If(GenerationNot), If(MetagenerationIs),
-            If(MetagenerationNot)] },
+            If(MetagenerationNot)], masking: Tested },
     Route { row: 18, method: "POST",
         path: &["", "upload", "storage", "v1", "b", "{bucket}", "o"],
         params: &[UploadType, Name, ContentEncoding, If(GenerationIs), If(GenerationNot),
-            If(MetagenerationIs), If(MetagenerationNot)] },
+            If(MetagenerationIs), If(MetagenerationNot)], masking: Tested },
     Route { row: 19, method: "PUT",
         path: &["", "upload", "storage", "v1", "b", "{bucket}", "o"],
-        params: &[UploadId] },
+        params: &[UploadId], masking: Tested },
     Route { row: 20, method: "DELETE",
         path: &["", "upload", "storage", "v1", "b", "{bucket}", "o"],
-        params: &[UploadId] },
+        params: &[UploadId], masking: Tested },
     Route { row: 21, method: "GET",
         path: &["", "download", "storage", "v1", "b", "{bucket}", "o", "{object}"],
         params: &[AltOfDownload, SoftOfDownload, GenerationOfGet, If(GenerationIs),
-            If(GenerationNot), If(MetagenerationIs), If(MetagenerationNot)] },
+            If(GenerationNot), If(MetagenerationIs), If(MetagenerationNot)], masking: Unread },
 ];
 
 /// The rows, in their order.

@@ -2,7 +2,7 @@
 use crate::paths::{find_route, segments};
 use crate::table::all_routes;
 use crate::tests::call_of;
-use crate::{RouteFault, UploadKind, route};
+use crate::{MaskPart, RouteFault, UploadKind, route};
 use gcs_meaning::{Pre, Text};
 use std::alloc::{AllocError, Global};
 use std::test::Fail;
@@ -203,6 +203,50 @@ fn a_page_has_at_most_a_thousand(rt: HostRuntime) -> Result<(), RouteFault> {
     ] {
         let list = call_of(rt.alloc(), 2, query)?;
         assert_eq!(rt; list.most, most, "{query}");
+    }
+    Ok(())
+}
+
+// The number of a request's row, its preconditions, and what its mask is.
+fn changed(
+    alloc: Global,
+    method: &str,
+    query: &str,
+) -> Result<Option<(u32, Pre, u32)>, AllocError> {
+    let target = format!(in alloc; "/storage/v1/b/tub/o/a{query}")?;
+    Ok(match route(alloc, method.as_bytes(), target.as_bytes()) {
+        Ok(call) => Some((call.row, call.pre, kind_of(&call.mask))),
+        Err(_) => None,
+    })
+}
+
+// 0 where the mask is absent, 1 where it is one, and 2 where its text is none.
+fn kind_of(mask: &MaskPart) -> u32 {
+    match mask {
+        MaskPart::Absent => 0,
+        MaskPart::Is(_) => 1,
+        MaskPart::Fault(_) => 2,
+    }
+}
+
+#[test]
+fn objects_are_changed_and_deleted_under_preconditions(rt: HostRuntime) -> Result<(), Fail> {
+    let pre = Pre {
+        generation_is: Some(1),
+        generation_not: None,
+        metageneration_is: None,
+        metageneration_not: Some(2),
+    };
+    let query = "?ifGenerationMatch=1&ifMetagenerationNotMatch=2&fields=";
+    for (method, mask, row, kind) in [
+        ("PATCH", "name,size", 11, 1),
+        ("PUT", "*", 12, 1),
+        ("PUT", "", 12, 0),
+        ("DELETE", "(", 13, 0),
+    ] {
+        let whole = format!(in rt.alloc(); "{query}{mask}")?;
+        let seen = changed(rt.alloc(), method, whole.as_str())?;
+        assert_eq!(rt; seen, Some((row, pre, kind)), "{method}");
     }
     Ok(())
 }

@@ -58,22 +58,9 @@ fn a_method_that_no_row_of_the_path_has_is_refused(rt: HostRuntime) {
 #[test]
 fn what_is_not_served_is_refused_before_its_names(rt: HostRuntime) {
     for (method, target) in [
-        ("GET", "/storage/v1/b"),
-        ("GET", "/storage/v1/b/goog/o?%FF"),
-        ("DELETE", "/storage/v1/b/tub/o/.."),
-        ("GET", "/storage/v1/b/goog/o/..?fields"),
-        ("GET", "/storage/v1/b/tub/o/a?%66ields=name"),
-        ("GET", "/storage/v1/b/tub/o/a?%FF&fields="),
-        ("GET", "/storage/v1/b/tub/o/a?ifGenerationMatch=x"),
-        ("GET", "/storage/v1/b/tub/o/a?ifGenerationNotMatch=0"),
-        (
-            "GET",
-            "/download/storage/v1/b/tub/o/a?alt=x&ifMetagenerationMatch=1",
-        ),
-        (
-            "POST",
-            "/upload/storage/v1/b/tub/o?ifMetagenerationNotMatch=",
-        ),
+        ("POST", "/storage/v1/b/goog/restore?%FF"),
+        ("POST", "/storage/v1/b/goog/lockRetentionPolicy"),
+        ("POST", "/storage/v1/b/tub/o/a/restore?fields=("),
         ("POST", "/upload/storage/v1/b/goog/o?uploadType=multipart"),
         (
             "POST",
@@ -170,6 +157,27 @@ fn parameters_of_a_read_are_tested_in_their_order(rt: HostRuntime) -> Result<(),
         ("generation=+1", invalid(Key::Generation)),
     ] {
         let seen = reason_below(rt.alloc(), "GET", "/storage/v1/b/tub/o/a?", query)?;
+        assert_eq!(rt; seen, reason, "{query}");
+    }
+    Ok(())
+}
+
+#[test]
+fn a_text_that_is_no_mask_is_refused_behind_the_parameters(rt: HostRuntime) -> Result<(), Fail> {
+    for (query, reason) in [
+        ("fields=a,,b", Some(Reason::BadMask { place: 2 })),
+        ("fields=items(name", Some(Reason::BadMask { place: 10 })),
+        ("%66ields=%28", Some(Reason::BadMask { place: 0 })),
+        ("fields=(&generation=x", invalid(Key::Generation)),
+        (
+            "fields=(&ifMetagenerationNotMatch=x",
+            invalid(Key::IfMetagenerationNotMatch),
+        ),
+        ("fields=(&fields=name", None),
+        ("fields=(&fields=", None),
+        ("Fields=(", None),
+    ] {
+        let seen = reason_below(rt.alloc(), "PATCH", "/storage/v1/b/tub/o/a?", query)?;
         assert_eq!(rt; seen, reason, "{query}");
     }
     Ok(())
