@@ -136,9 +136,12 @@ fixed-some f e = head-some _ _ _ _ _ e
 
 pub reply-some : (form : Form) (q : Request) (reply : Reply) → reply_text form q reply ≢ []
 reply-some form q reply.NoContent e = bare-some form 204 e
+reply-some form q reply.NotModified e = bare-some form 304 e
 reply-some form q (reply.Refused reason) e = head-some _ _ _ _ _ e
 reply-some form q (reply.Object row settings) e = head-some _ _ _ _ _ e
 reply-some form q (reply.Bucket row) e = head-some _ _ _ _ _ e
+reply-some form q (reply.Buckets rows token) e = head-some _ _ _ _ _ e
+reply-some form q (reply.Page page) e = head-some _ _ _ _ _ e
 reply-some form q (reply.Media row part) e = head-some _ _ _ _ _ e
 
 replies-some : (limits : Limits) (head : Head) (body : List ℕ) (keeps : Bool) (moment : ℕ) (h : Histories) (caller : ℕ) (from : Counts) (text : List ℕ) (to : Counts) → Replies limits head body keeps moment h caller from text to → text ≢ []

@@ -1,7 +1,7 @@
 -- Histories that grow, and runs of a script over them.
 use Rattle.std.proofs.Common.{◌≡◌, ◌≢◌, ◌⊎◌, inl, inr, ℕ, suc, ◌+◌, ◌<◌, nat_eq, not, Bool, true, false, Option, Some, None, List, [], ◌∷◌, ◌++◌, length, refl, ap, sym, subst, ◌∙◌, arith, add-zero, append-nil, append_assoc, length-append, eq-eqb, if◌then◌else◌}
-use Rattle.std.proofs.lemmas.Bool.{eqb-true, eqb-false, ne_eqb}
-use Rattle.std.specs.Prelude.{◌==◌, sum}
+use Rattle.std.proofs.lemmas.Bool.{eqb-true, eqb-false, ltb-true, ne_eqb}
+use Rattle.std.specs.Prelude.{◌==◌, nat_lt, sum}
 use Rattle.std.specs.List.{AllByRecursion}
 use Rattle.std.proofs.Math.Nat.{mod-lt}
 use Rattle.gcs_meaning.specs.declared.command.Answer.{Answer}
@@ -24,7 +24,8 @@ use Rattle.gcs_session.specs.declared.requests.Request.TheVariants as request
 use Rattle.gcs_session.specs.declared.script.Reply.TheVariants as reply
 use Rattle.gcs_session.specs.declared.script.Move.{Move}
 use Rattle.gcs_session.specs.declared.script.Move.TheVariants.{Ask, Say}
-use Rattle.gcs_session.specs.Scripts.{script, bucket_change_move, first_move, insert_move, on_bucket, on_object, put_move, IsAskable, IsGivenInLimits, Asks, Counts, SameCounts, IsOneMore, is_some_step}
+use Rattle.gcs_session.specs.Scripts.{script, single_script, buckets_reply, buckets_script, bucket_change_move, delete_move, list_move, first_move, insert_move, on_bucket, on_object, put_move, IsAskable, IsGivenInLimits, Asks, Counts, SameCounts, IsOneMore, is_some_step}
+use Rattle.gcs_session.specs.Lists.{list_of_shard, listed_in}
 use Rattle.gcs_session.specs.Replies.{memory_text}
 use Rattle.gcs_session.specs.Running.{lengths, Grows}
 use Rattle.gcs_session.proofs.Inserted.{inserted_in_limits}
@@ -106,11 +107,26 @@ Asks-more q done (b ∷ ans) moment h h' caller from mid to shard command a g x 
   Asks-more q (done ++ b ∷ []) ans moment h h' caller x.2 mid to shard command a g x.6 (ap (script q) (append_assoc done (b ∷ []) ans) ∙ e) at one,
 )
 
--- a script asks once
-pub asks_once : (q : Request) (ans : List Answer) (shard : ℕ) (command : Command) → script q ans ≡ Ask shard command → ans ≡ []
-asks_once (request.Refused reason) ans shard command e = absurd (cc)
-asks_once (request.Asks call given) [] shard command e = refl
-asks_once (request.Asks call given) (a ∷ ans) shard command e = absurd (cc)
+-- a list of buckets asks sixteen times at most
+buckets_ask_few : (call : Call) (ans : List Answer) (shard : ℕ) (command : Command) (b : Bool) → nat_lt (length ans) 16 ≡ b
+    → (if b then Ask (length ans) (list_of_shard call (length ans)) else Say (buckets_reply call (listed_in ans))) ≡ Ask shard command → length ans < 16
+buckets_ask_few call ans shard command true few e = ltb-true (length ans) 16 few
+buckets_ask_few call ans shard command false few e = absurd (cc)
+
+-- every other script asks once
+single_asks_once : (call : Call) (given : Given) (ans : List Answer) (shard : ℕ) (command : Command) → single_script call given ans ≡ Ask shard command → length ans < 16
+single_asks_once call given [] shard command e = omega arith
+single_asks_once call given (a ∷ ans) shard command e = absurd (cc)
+
+asks_few_by : (call : Call) (given : Given) (ans : List Answer) (shard : ℕ) (command : Command) (b : Bool)
+    → (if b then buckets_script call ans else single_script call given ans) ≡ Ask shard command → length ans < 16
+asks_few_by call given ans shard command true e = buckets_ask_few call ans shard command (nat_lt (length ans) 16) refl e
+asks_few_by call given ans shard command false e = single_asks_once call given ans shard command e
+
+-- a script asks sixteen times at most
+pub asks_few : (q : Request) (ans : List Answer) (shard : ℕ) (command : Command) → script q ans ≡ Ask shard command → length ans < 16
+asks_few (request.Refused reason) ans shard command e = absurd (cc)
+asks_few (request.Asks call given) ans shard command e = asks_few_by call given ans shard command (call.row == 2) e
 
 -- a shard may be asked for a command: it is one of the sixteen, the command belongs to it, and is built
 pub record MayBeAsked (shard : ℕ) (command : Command) : Type 0 where
@@ -147,23 +163,40 @@ bucket_may : (call : Call) (body : BucketBody) (inserts : Bool) → AreSetInLimi
 bucket_may call body true set = insert_may body.name body set
 bucket_may call body false set = on_bucket_may call.buckets _ (λ bucket. ((refl, tt), set))
 
-bare_may : (call : Call) (reads deletes : Bool)
+bare_may : (call : Call) (reads deletes removes lists : Bool)
     → MoveMayBeAsked (if reads then on_bucket call.buckets (λ bucket. BucketGet bucket call.pre)
-    else if deletes then on_bucket call.buckets (λ bucket. BucketDelete bucket call.pre) else Say (reply.Refused NotBuilt))
-bare_may call true deletes = on_bucket_may call.buckets _ (λ bucket. ((refl, tt), tt))
-bare_may call false true = on_bucket_may call.buckets _ (λ bucket. ((refl, tt), tt))
-bare_may call false false = tt
+    else if deletes then on_bucket call.buckets (λ bucket. BucketDelete bucket call.pre) else if removes then delete_move call
+    else if lists then list_move call else Say (reply.Refused NotBuilt))
+bare_may call true deletes removes lists = on_bucket_may call.buckets _ (λ bucket. ((refl, tt), tt))
+bare_may call false true removes lists = on_bucket_may call.buckets _ (λ bucket. ((refl, tt), tt))
+bare_may call false false true lists = on_object_may call call.objects _ (λ bucket name. ((refl, tt), tt))
+bare_may call false false false true = on_bucket_may call.buckets _ (λ bucket. ((refl, tt), tt))
+bare_may call false false false false = tt
 
 first_may : (call : Call) (given : Given) → IsGivenInLimits given → MoveMayBeAsked (first_move call given)
-first_may call given.Nothing set = bare_may call (call.row == 3) (call.row == 6)
+first_may call given.Nothing set = bare_may call (call.row == 3) (call.row == 6) (call.row == 13) (call.row == 9)
 first_may call (given.Read range) set = on_object_may call call.objects _ (λ bucket name. ((refl, tt), tt))
 first_may call (given.Whole kind hashed) set = put_may call call.name kind hashed
 first_may call (given.Bucket body) set = bucket_may call body (call.row == 1) set
+first_may call (given.Object body) set = on_object_may call call.objects _ (λ bucket name. ((refl, tt), tt))
+
+single_may : (call : Call) (given : Given) (ans : List Answer) → IsGivenInLimits given → MoveMayBeAsked (single_script call given ans)
+single_may call given [] set = first_may call given set
+single_may call given (a ∷ ans) set = tt
+
+buckets_may : (call : Call) (ans : List Answer) (b : Bool) → nat_lt (length ans) 16 ≡ b
+    → MoveMayBeAsked (if b then Ask (length ans) (list_of_shard call (length ans)) else Say (buckets_reply call (listed_in ans)))
+buckets_may call ans true few = record { within = ltb-true (length ans) 16 few; belongs = (tt, refl); built = tt }
+buckets_may call ans false few = tt
+
+move_may : (call : Call) (given : Given) (ans : List Answer) → IsGivenInLimits given → (b : Bool)
+    → MoveMayBeAsked (if b then buckets_script call ans else single_script call given ans)
+move_may call given ans set true = buckets_may call ans (nat_lt (length ans) 16) refl
+move_may call given ans set false = single_may call given ans set
 
 pub asks_may : (q : Request) (ans : List Answer) (shard : ℕ) (command : Command) → IsAskable q → script q ans ≡ Ask shard command → MayBeAsked shard command
 asks_may (request.Refused reason) ans shard command set e = absurd (cc)
-asks_may (request.Asks call given) [] shard command set e = subst MoveMayBeAsked e (first_may call given set)
-asks_may (request.Asks call given) (a ∷ ans) shard command set e = absurd (cc)
+asks_may (request.Asks call given) ans shard command set e = subst MoveMayBeAsked e (move_may call given ans set (call.row == 2))
 
 entries_of-append : (caller : ℕ) (xs ys : List Entry) → entries_of caller (xs ++ ys) ≡ entries_of caller xs ++ entries_of caller ys
 entries_of-append caller [] ys = refl

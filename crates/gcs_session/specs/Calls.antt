@@ -1,17 +1,22 @@
 -- What a message asks for.
-use Rattle.std.specs.Prelude.{◌≡◌, ◌⊎◌, ℕ, ◌==◌, ◌&&◌, ◌||◌, nat_lt, Bool, true, List, length, Option, Some, None, Result, Ok, Err, if◌then◌else◌}
-use Rattle.std.specs.Option.{is_none}
+use Rattle.std.specs.Prelude.{◌≡◌, ◌⊎◌, ℕ, ◌==◌, ◌&&◌, ◌||◌, nat_lt, Bool, true, false, List, length, Option, Some, None, Result, Ok, Err, if◌then◌else◌}
+use Rattle.std.specs.Option.{is_none, is_some}
 use Rattle.gcs_http_in.specs.declared.limits.Limits.{Limits}
 use Rattle.gcs_http_in.specs.Head.{Head}
 use Rattle.gcs_meaning.specs.Content.{bytes_in}
-use Rattle.gcs_meaning.specs.declared.reason.Key.TheVariants.{Body, HeadContentEncoding, Name}
+use Rattle.gcs_meaning.specs.declared.reason.Key.TheVariants.{Body, HeadContentEncoding, Name, PageToken}
 use Rattle.gcs_meaning.specs.declared.reason.Reason.{Reason}
 use Rattle.gcs_meaning.specs.declared.reason.Reason.TheVariants as reason
-use Rattle.gcs_meaning.specs.declared.reason.Reason.TheVariants.{Invalid, Required, TooLong}
+use Rattle.gcs_meaning.specs.declared.reason.Reason.TheVariants.{BadMask, Invalid, Required, TooLong}
+use Rattle.gcs_meaning.specs.Tests.{or_else}
+use Rattle.gcs_listing.specs.Tokens.{unit_of_token, bucket_of_token}
 use Rattle.gcs_json.specs.declared.fault.BodyFault.{BodyFault}
 use Rattle.gcs_json.specs.declared.fault.BodyFault.TheVariants.{NotJson, NotBuilt, BadField, Missing, NoMemory}
 use Rattle.gcs_json.specs.Bucket.{bucket_of}
+use Rattle.gcs_json.specs.Object.{object_of}
 use Rattle.gcs_route.specs.declared.call.Call.{Call}
+use Rattle.gcs_route.specs.declared.call.MaskPart.{MaskPart}
+use Rattle.gcs_route.specs.declared.call.MaskPart.TheVariants as mask
 use Rattle.gcs_route.specs.declared.fault.RouteFault.TheVariants as fault
 use Rattle.gcs_route.specs.Calls.{IsFault}
 use Rattle.gcs_route.specs.Calls as route
@@ -26,12 +31,38 @@ use Rattle.gcs_session.specs.declared.requests.Wanted.TheVariants as wanted
 use Rattle.gcs_session.specs.Heads.{content_type_of, is_encoded, method_of, range_in}
 
 -- an upload of a whole content needs a name (Cloud Storage JSON API, "Objects: insert")
+abbrev pub name_refusal : Call → Option Reason
+name_refusal call = if (call.row == 18) && is_none call.name then Some (Required Name) else None
+
+-- the token of a page, where it is given, must be one that a page can have
+abbrev pub bad_token : {A : Type 0} → (List ℕ → Option A) → Option (List ℕ) → Option Reason
+bad_token reads None = None
+bad_token reads (Some token) = if is_some (reads token) then None else Some (Invalid PageToken)
+
+-- a list of objects has a token of a unit, and one of buckets that of a name
+abbrev pub token_refusal : Call → Option Reason
+token_refusal call =
+    if call.row == 9 then bad_token unit_of_token call.page_token
+    else if call.row == 2 then bad_token bucket_of_token call.page_token
+    else None
+
+-- a mask that was kept until the token was tested
+abbrev pub mask_refusal : MaskPart → Option Reason
+mask_refusal mask.Absent = None
+mask_refusal (mask.Is read) = None
+mask_refusal (mask.Fault place) = Some (BadMask place)
+
+-- the first test of a head's call that fails
 abbrev pub head_refusal : Call → Option Reason
-head_refusal call = if (call.row == 18) && is_none call.name then Some (Required Name) else None
+head_refusal call = or_else (name_refusal call) (or_else (token_refusal call) (mask_refusal call.mask))
+
+-- the requests of the row change an object: they patch or replace its metadata
+abbrev pub changes_object : ℕ → Bool
+changes_object row = (row == 11) || (row == 12)
 
 -- the requests of the row have a JSON body
 abbrev pub brings_json : ℕ → Bool
-brings_json row = (row == 1) || ((row == 4) || (row == 5))
+brings_json row = (row == 1) || ((row == 4) || ((row == 5) || changes_object row))
 
 -- what the head gives beside a call, by its row of the table: a read of bytes the range, an upload the content type, a JSON body
 -- whether it is encoded
@@ -64,9 +95,9 @@ abbrev pub fault_in : {A : Type 0} → Result A BodyFault → Option Reason
 fault_in (Ok read) = None
 fault_in (Err fault) = said_fault fault
 
--- the refusal of what a JSON body says, on a row of the table
+-- the refusal of what a JSON body says, on a row of the table: that of an object, or of a bucket
 abbrev pub body_refusal : ℕ → List ℕ → Option Reason
-body_refusal row body = fault_in (bucket_of row body)
+body_refusal row body = if changes_object row then fault_in (object_of row body) else fault_in (bucket_of row body)
 
 -- the refusal of a JSON body that may have so many bytes: for its length, for its encoding, and then for what it says
 abbrev pub json_refusal : ℕ → Bool → ℕ → List ℕ → Option Reason
@@ -77,7 +108,8 @@ json_refusal most encoded row body =
 
 -- what a JSON body says is given, on a row of the table
 abbrev pub IsSaidBy : ℕ → List ℕ → Given → Type 0
-IsSaidBy row body (given.Bucket read) = bucket_of row body ≡ Ok read
+IsSaidBy row body (given.Bucket read) = (changes_object row ≡ false) × (bucket_of row body ≡ Ok read)
+IsSaidBy row body (given.Object read) = (changes_object row ≡ true) × (object_of row body ≡ Ok read)
 IsSaidBy row body _ = ⊥
 
 -- what a message gives is what its head gives, with its body as the content of an upload, or as what its JSON says

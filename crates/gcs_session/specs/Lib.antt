@@ -2,6 +2,7 @@ pub mod Ranges
 pub mod Heads
 pub mod Calls
 pub mod Inserts
+pub mod Lists
 pub mod Scripts
 pub mod Replies
 pub mod Running

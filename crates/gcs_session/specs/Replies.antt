@@ -1,7 +1,12 @@
 -- What is written for a reply (RFC 9112, 4 to 6).
 use Rattle.std.specs.Prelude.{ℕ, ◌+◌, ◌==◌, List, [], ◌∷◌, ◌++◌, length, slice_range, Bool, Option, Some, None, option_map, if◌then◌else◌, codes, decimal, true, false}
 use Rattle.std.specs.Str.{bytes_eq}
+use Rattle.serde_json.specs.Data.{Data}
 use Rattle.serde_json.specs.Written.{compact_text}
+use Rattle.gcs_fields.specs.Views.{mask_of}
+use Rattle.gcs_fields.specs.Select.{selected}
+use Rattle.gcs_route.specs.declared.call.MaskPart.{MaskPart}
+use Rattle.gcs_route.specs.declared.call.MaskPart.TheVariants as mask
 use Rattle.gcs_crc.specs.Crc.{crc}
 use Rattle.gcs_crc.specs.Text.{crc_text_of, md5_text_of}
 use Rattle.gcs_http_in.specs.Head.{Head}
@@ -19,12 +24,13 @@ use Rattle.gcs_meaning.specs.declared.settings.Meta.{Meta}
 use Rattle.gcs_meaning.specs.declared.version.Row.{Row}
 use Rattle.gcs_meaning.specs.Content.{Digested, bytes_in, md5_if}
 use Rattle.gcs_meaning.specs.Refusals.{status_of}
+use Rattle.gcs_render.specs.Lists.{buckets_data, list_data}
 use Rattle.gcs_render.specs.Resources.{bucket_data, object_data}
 use Rattle.gcs_render.specs.Refusals.{error_data}
 use Rattle.gcs_session.specs.declared.requests.Request.{Request}
 use Rattle.gcs_session.specs.declared.requests.Request.TheVariants as request
 use Rattle.gcs_session.specs.declared.script.Reply.{Reply}
-use Rattle.gcs_session.specs.declared.script.Reply.TheVariants.{Refused, Object, Bucket, Media, NoContent}
+use Rattle.gcs_session.specs.declared.script.Reply.TheVariants.{Refused, Object, Bucket, Buckets, Page, Media, NoContent, NotModified}
 use Rattle.gcs_session.specs.declared.reply.Form.{Form}
 
 -- what a reply says of the connection, after a message of this version that keeps it or doesn't
@@ -51,6 +57,17 @@ abbrev pub bucket_in : Request → List ℕ
 bucket_in (request.Refused reason) = []
 bucket_in (request.Asks call given) = first_name call.buckets
 
+-- what a mask leaves of a resource (Google's page "Performance tips", "Partial response")
+abbrev pub masked_by : MaskPart → Data → Data
+masked_by mask.Absent resource = resource
+masked_by (mask.Is m) resource = selected (mask_of m) resource
+masked_by (mask.Fault place) resource = resource
+
+-- the part of a resource that a request asks for
+abbrev pub masked : Request → Data → Data
+masked (request.Refused reason) resource = resource
+masked (request.Asks call given) resource = masked_by call.mask resource
+
 -- ---- status
 
 -- media is 200 whole, and 206 in part (RFC 9110, 15.3.7)
@@ -62,7 +79,10 @@ abbrev pub status_in : Reply → ℕ
 status_in (Refused reason) = status_of reason
 status_in (Object row settings) = 200
 status_in (Bucket row) = 200
+status_in (Buckets rows token) = 200
+status_in (Page page) = 200
 status_in NoContent = 204
+status_in NotModified = 304
 status_in (Media row part) = media_status part
 
 -- ---- fields
@@ -148,7 +168,10 @@ abbrev pub lines_in : Reply → List Line
 lines_in (Refused reason) = refusal_lines reason
 lines_in (Object row settings) = resource_lines
 lines_in (Bucket row) = resource_lines
+lines_in (Buckets rows token) = resource_lines
+lines_in (Page page) = resource_lines
 lines_in NoContent = []
+lines_in NotModified = []
 lines_in (Media row part) = media_lines row part
 
 -- ---- body
@@ -158,13 +181,16 @@ abbrev pub part_bytes : Option (ℕ × ℕ) → List ℕ → List ℕ
 part_bytes None bytes = bytes
 part_bytes (Some part) bytes = slice_range bytes part.0 (part.1 + 1)
 
--- the body of a reply, by the bucket that its request names
-abbrev pub body_in : List ℕ → Reply → List ℕ
-body_in bucket (Refused reason) = compact_text (error_data reason)
-body_in bucket (Object row settings) = compact_text (object_data bucket row settings)
-body_in bucket (Bucket row) = compact_text (bucket_data row)
-body_in bucket NoContent = []
-body_in bucket (Media row part) = part_bytes part (bytes_in row.hashed)
+-- the body of a reply, by the bucket that its request names and by its mask, which no refusal is put under
+abbrev pub body_in : Request → Reply → List ℕ
+body_in q (Refused reason) = compact_text (error_data reason)
+body_in q (Object row settings) = compact_text (masked q (object_data (bucket_in q) row settings))
+body_in q (Bucket row) = compact_text (masked q (bucket_data row))
+body_in q (Buckets rows token) = compact_text (masked q (buckets_data rows token))
+body_in q (Page page) = compact_text (masked q (list_data (bucket_in q) page))
+body_in q NoContent = []
+body_in q NotModified = []
+body_in q (Media row part) = part_bytes part (bytes_in row.hashed)
 
 -- ---- texts
 
@@ -179,7 +205,8 @@ bare_text form status = head_text status [] None form.ending
 -- the text of a reply
 abbrev pub reply_text : Form → Request → Reply → List ℕ
 reply_text form q NoContent = bare_text form (status_in NoContent)
-reply_text form q reply = head_and_body form (status_in reply) (standing (lines_in reply)) (body_in (bucket_in q) reply)
+reply_text form q NotModified = bare_text form (status_in NotModified)
+reply_text form q reply = head_and_body form (status_in reply) (standing (lines_in reply)) (body_in q reply)
 
 -- the constant replies: want of memory before any step, and after one
 abbrev pub memory_text : Form → Bool → List ℕ

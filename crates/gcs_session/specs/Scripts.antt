@@ -1,14 +1,18 @@
 -- The steps of a request, and how a history answers them.
-use Rattle.std.specs.Prelude.{◌≡◌, ◌≢◌, ℕ, ◌+◌, ◌==◌, unwrap_or, Bool, true, false, List, [], ◌∷◌, ◌++◌, Option, Some, None, if◌then◌else◌}
-use Rattle.gcs_meaning.specs.declared.reason.Reason.TheVariants.{NotBuilt}
+use Rattle.std.specs.Prelude.{◌≡◌, ◌≢◌, ℕ, ◌+◌, ◌==◌, ◌&&◌, ◌||◌, unwrap_or, Bool, true, false, List, [], ◌∷◌, ◌++◌, length, take, nat_lt, Option, Some, None, if◌then◌else◌}
+use Rattle.gcs_meaning.specs.declared.reason.Key.{Key}
+use Rattle.gcs_meaning.specs.declared.reason.Key.TheVariants.{IfGenerationNotMatch, IfMetagenerationNotMatch}
+use Rattle.gcs_meaning.specs.declared.reason.Reason.{Reason}
+use Rattle.gcs_meaning.specs.declared.reason.Reason.TheVariants.{Condition, NotBuilt}
 use Rattle.gcs_meaning.specs.declared.settings.Meta.{Meta}
 use Rattle.gcs_meaning.specs.declared.settings.Settings.{Settings}
 use Rattle.gcs_meaning.specs.declared.version.Expect.{Expect}
+use Rattle.gcs_meaning.specs.declared.version.BucketRow.{BucketRow}
 use Rattle.gcs_meaning.specs.declared.version.Row.{Row}
 use Rattle.gcs_meaning.specs.declared.command.Answer.{Answer}
 use Rattle.gcs_meaning.specs.declared.command.Answer.TheVariants as answer
 use Rattle.gcs_meaning.specs.declared.command.Command.{Command}
-use Rattle.gcs_meaning.specs.declared.command.Command.TheVariants.{BucketInsert, BucketGet, BucketChange, BucketDelete, Get, Put}
+use Rattle.gcs_meaning.specs.declared.command.Command.TheVariants.{BucketInsert, BucketGet, BucketChange, BucketDelete, List as Listing, Change, Delete, Get, Put}
 use Rattle.gcs_meaning.specs.BucketChanges.{AreSetInLimits}
 use Rattle.gcs_meaning.specs.Content.{Digested}
 use Rattle.gcs_meaning.specs.Moment.{shard_number}
@@ -16,6 +20,7 @@ use Rattle.gcs_meaning.specs.Desk.{Histories}
 use Rattle.gcs_meaning.specs.History.{AnswersAt}
 use Rattle.gcs_meaning.specs.ObjectChanges.{default_content_type}
 use Rattle.gcs_json.specs.declared.bucket.BucketBody.{BucketBody}
+use Rattle.gcs_json.specs.declared.object.ObjectBody.{ObjectBody}
 use Rattle.gcs_route.specs.declared.call.Call.{Call}
 use Rattle.gcs_session.specs.declared.ranges.Range.{Range}
 use Rattle.gcs_session.specs.declared.requests.Given.{Given}
@@ -28,6 +33,7 @@ use Rattle.gcs_session.specs.declared.script.Reply.{Reply}
 use Rattle.gcs_session.specs.declared.script.Reply.TheVariants as reply
 use Rattle.gcs_session.specs.Ranges.{range_reply}
 use Rattle.gcs_session.specs.Inserts.{inserted_settings}
+use Rattle.gcs_session.specs.Lists.{list_of_shard, listed_in, query_of, token_after}
 
 -- no expected digests
 abbrev pub no_expect : Expect
@@ -62,6 +68,14 @@ on_object call (name ∷ _) command = on_bucket call.buckets (λ bucket. command
 abbrev pub get_move : Call → Move
 get_move call = on_object call call.objects (λ bucket name. Get bucket name call.generation call.soft call.pre)
 
+-- the deletion of a version
+abbrev pub delete_move : Call → Move
+delete_move call = on_object call call.objects (λ bucket name. Delete bucket name call.generation call.pre)
+
+-- the change of a version's metadata: a PUT sets all of them
+abbrev pub change_move : Call → ObjectBody → Move
+change_move call body = on_object call call.objects (λ bucket name. Change bucket name call.generation call.pre body.change (call.row == 12))
+
 -- the upload of a whole content, by the name of the query
 abbrev pub put_move : Call → Option (List ℕ) → Option (List ℕ) → Digested → Move
 put_move call None kind hashed = Say (reply.Refused NotBuilt)
@@ -81,11 +95,18 @@ bucket_change_move call body = on_bucket call.buckets (λ bucket. BucketChange b
 abbrev pub bucket_move : Call → BucketBody → Move
 bucket_move call body = if call.row == 1 then insert_move body.name body else bucket_change_move call body
 
--- the command of a call that gives nothing beside it: by its row of the table, the read of a bucket or its delete
+-- the list of a bucket's objects
+abbrev pub list_move : Call → Move
+list_move call = on_bucket call.buckets (λ bucket. Listing bucket (query_of call))
+
+-- the command of a call that gives nothing beside it: by its row of the table, the read of a bucket, its deletion, that of a
+-- version, or a list of objects
 abbrev pub bare_move : Call → Move
 bare_move call =
     if call.row == 3 then on_bucket call.buckets (λ bucket. BucketGet bucket call.pre)
     else if call.row == 6 then on_bucket call.buckets (λ bucket. BucketDelete bucket call.pre)
+    else if call.row == 13 then delete_move call
+    else if call.row == 9 then list_move call
     else Say (reply.Refused NotBuilt)
 
 -- the one command of a call
@@ -94,6 +115,7 @@ first_move call given.Nothing = bare_move call
 first_move call (given.Read range) = get_move call
 first_move call (given.Whole kind hashed) = put_move call call.name kind hashed
 first_move call (given.Bucket body) = bucket_move call body
+first_move call (given.Object body) = change_move call body
 
 -- the numbers that are given are in their limits
 abbrev pub IsGivenInLimits : Given → Type 0
@@ -101,6 +123,7 @@ IsGivenInLimits given.Nothing = Unit {0}
 IsGivenInLimits (given.Read range) = Unit {0}
 IsGivenInLimits (given.Whole kind hashed) = Unit {0}
 IsGivenInLimits (given.Bucket body) = AreSetInLimits body.change
+IsGivenInLimits (given.Object body) = Unit {0}
 
 -- a desk can be asked what the request asks
 abbrev pub IsAskable : Request → Type 0
@@ -115,19 +138,53 @@ range_given _ = None
 abbrev pub object_reply : Call → Given → Row → Settings → Reply
 object_reply call given row settings = if call.media then range_reply (range_given given) row else reply.Object row settings
 
+-- the requests of the row read a bucket or a version
+abbrev pub is_read : ℕ → Bool
+is_read row = (row == 3) || ((row == 10) || (row == 21))
+
+-- a precondition that holds where the number is another one
+abbrev pub is_not_match : Key → Bool
+is_not_match IfGenerationNotMatch = true
+is_not_match IfMetagenerationNotMatch = true
+is_not_match _ = false
+
+-- what is read has the very number that the reader has (RFC 9110, 13.1.2)
+abbrev pub is_unchanged : ℕ → Reason → Bool
+is_unchanged row (Condition which wanted found) = is_read row && is_not_match which
+is_unchanged row _ = false
+
+-- what a call on the row says of a refusal
+abbrev pub refused_reply : ℕ → Reason → Reply
+refused_reply row reason = if is_unchanged row reason then reply.NotModified else reply.Refused reason
+
 -- what a call says of the answer to its command. Such a command gets no answer of another kind
 abbrev pub reply_of : Call → Given → Answer → Reply
 reply_of call given (answer.Object row settings) = object_reply call given row settings
 reply_of call given (answer.Bucket row) = reply.Bucket row
 reply_of call given answer.Empty = reply.NoContent
-reply_of call given (answer.Refused reason) = reply.Refused reason
+reply_of call given (answer.Page page) = reply.Page page
+reply_of call given (answer.Refused reason) = refused_reply call.row reason
 reply_of call given _ = reply.Refused NotBuilt
+
+-- the script of a call with one step
+abbrev pub single_script : Call → Given → List Answer → Move
+single_script call given [] = first_move call given
+single_script call given (a ∷ answers) = Say (reply_of call given a)
+
+-- a page of these buckets
+abbrev pub buckets_reply : Call → List BucketRow → Reply
+buckets_reply call rows = reply.Buckets (take call.most rows) (token_after call.most rows)
+
+-- the script of a list of buckets: it asks all sixteen shards, one after the other
+abbrev pub buckets_script : Call → List Answer → Move
+buckets_script call answers =
+    if nat_lt (length answers) 16 then Ask (length answers) (list_of_shard call (length answers))
+    else Say (buckets_reply call (listed_in answers))
 
 -- the next move of a request after these answers
 abbrev pub script : Request → List Answer → Move
 script (request.Refused reason) answers = Say (reply.Refused reason)
-script (request.Asks call given) [] = first_move call given
-script (request.Asks call given) (a ∷ answers) = Say (reply_of call given a)
+script (request.Asks call given) answers = if call.row == 2 then buckets_script call answers else single_script call given answers
 
 -- a step was made
 abbrev pub is_some_step : List Answer → Bool

@@ -17,8 +17,8 @@ use gcs_io::Clock;
 use gcs_meaning::Desk;
 use std::alloc::Global;
 
-/// The most moves that a script has: its steps, and what it says.
-const MOVES: u8 = 2;
+/// The most moves that a script has: its steps, of which a list of buckets has one a shard, and what it says.
+const MOVES: u8 = 17;
 
 /// How a script ended, and whether it made a step.
 #[derive(Drop)]

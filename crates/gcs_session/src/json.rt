@@ -4,16 +4,19 @@ ghost use Rattle.serde_json.specs.View.{view};
 ghost use Rattle.serde_json.specs.Written.{compact_text, has_float};
 ghost use Rattle.gcs_http_out.specs.Head.{IsStatus};
 ghost use Rattle.gcs_meaning.specs.Refusals.{status_of};
+ghost use Rattle.gcs_render.specs.Lists.{buckets_data, list_data};
 ghost use Rattle.gcs_render.specs.Refusals.{error_data};
 ghost use Rattle.gcs_render.specs.Resources.{bucket_data, object_data};
-ghost use Rattle.gcs_session.specs.Replies.{bucket_in, field_where, head_and_body, json_type, refusal_lines, resource_lines, standing, unmet_range};
+ghost use Rattle.gcs_session.specs.Replies.{bucket_in, field_where, head_and_body, json_type, masked, refusal_lines, resource_lines, standing, unmet_range};
 ghost use Rattle.gcs_session.specs.Running.{outgoing_bytes};
 
 use crate::reply::{Form, Outgoing};
 use crate::reply_fields::ReplyFields;
 use crate::requests::Request;
-use gcs_meaning::{BucketName, BucketRow, Reason, Row, Settings, Text};
-use gcs_render::{bucket_value, error_value, object_value};
+use gcs_fields::apply;
+use gcs_meaning::{BucketName, BucketRow, List, Page, Reason, Row, Settings, Text};
+use gcs_render::{bucket_value, buckets_value, error_value, list_value, object_value};
+use gcs_route::MaskPart;
 use serde_json::Value;
 use std::alloc::{AllocError, Global};
 
@@ -36,7 +39,7 @@ pub fn resource_reply(
     settings: &Settings,
 ) -> Result<Outgoing, AllocError>
     ensures { IfOk result (λ outgoing. outgoing_bytes outgoing
-        ≡ head_and_body form 200 (standing resource_lines) (compact_text (object_data (bucket_in request.now) row.now settings.now))) }
+        ≡ head_and_body form 200 (standing resource_lines) (compact_text (masked request.now (object_data (bucket_in request.now) row.now settings.now)))) }
 {
     let body = resource_text(alloc, request, row, settings)?;
     let fields = resource_fields(alloc)?;
@@ -44,13 +47,86 @@ pub fn resource_reply(
 }
 
 /// The resource of a bucket. `Err`: no memory.
-pub fn bucket_reply(alloc: Global, form: Form, row: &BucketRow) -> Result<Outgoing, AllocError>
+pub fn bucket_reply(
+    alloc: Global,
+    form: Form,
+    request: &Request,
+    row: &BucketRow,
+) -> Result<Outgoing, AllocError>
     ensures { IfOk result (λ outgoing. outgoing_bytes outgoing
-        ≡ head_and_body form 200 (standing resource_lines) (compact_text (bucket_data row.now))) }
+        ≡ head_and_body form 200 (standing resource_lines) (compact_text (masked request.now (bucket_data row.now)))) }
 {
-    let body = bucket_text(alloc, row)?;
+    let body = bucket_text(alloc, request, row)?;
     let fields = resource_fields(alloc)?;
     json_text(alloc, form, 200, fields, &body)
+}
+
+/// A page of buckets. `Err`: no memory.
+pub fn buckets_reply(
+    alloc: Global,
+    form: Form,
+    request: &Request,
+    rows: &List<BucketRow>,
+    token: &Option<Text>,
+) -> Result<Outgoing, AllocError>
+    ensures { IfOk result (λ outgoing. outgoing_bytes outgoing
+        ≡ head_and_body form 200 (standing resource_lines) (compact_text (masked request.now (buckets_data rows.now token.now)))) }
+{
+    let value = buckets_value(alloc, rows, token.as_ref())?;
+    masked_reply(alloc, form, request, value)
+}
+
+/// A page of objects, in the bucket that the request names. `Err`: no memory.
+pub fn page_reply(
+    alloc: Global,
+    form: Form,
+    request: &Request,
+    page: &Page,
+) -> Result<Outgoing, AllocError>
+    ensures { IfOk result (λ outgoing. outgoing_bytes outgoing
+        ≡ head_and_body form 200 (standing resource_lines) (compact_text (masked request.now (list_data (bucket_in request.now) page.now)))) }
+{
+    let value = page_of(alloc, request, page)?;
+    masked_reply(alloc, form, request, value)
+}
+
+// The part of a resource that a request asks for. `Err`: no memory.
+fn masked_reply(
+    alloc: Global,
+    form: Form,
+    request: &Request,
+    value: Value,
+) -> Result<Outgoing, AllocError>
+    requires { has_float (view value) ≡ false }
+    ensures { IfOk result (λ outgoing. outgoing_bytes outgoing
+        ≡ head_and_body form 200 (standing resource_lines) (compact_text (masked request.now (view value)))) }
+{
+    let part = mask_value(alloc, request, value)?;
+    let body = part.to_string(alloc)?;
+    let fields = resource_fields(alloc)?;
+    json_text(alloc, form, 200, fields, &body)
+}
+
+fn page_of(alloc: Global, request: &Request, page: &Page) -> Result<Value, AllocError>
+    ensures value { IfOk result (λ value. view value ≡ list_data (bucket_in request.now) page.now) }
+    ensures whole { IfOk result (λ value. has_float (view value) ≡ false) }
+{
+    match request {
+        Request::Asks { call, .. } => match call.buckets.get(0) {
+            Some(bucket) => list_value(alloc, bucket, page),
+            None => page_of_nowhere(alloc, page),
+        },
+        Request::Refused(_) => page_of_nowhere(alloc, page),
+    }
+}
+
+// A page of no bucket.
+fn page_of_nowhere(alloc: Global, page: &Page) -> Result<Value, AllocError>
+    ensures value { IfOk result (λ value. view value ≡ list_data [] page.now) }
+    ensures whole { IfOk result (λ value. has_float (view value) ≡ false) }
+{
+    let none = BucketName::new(Text::new(alloc));
+    list_value(alloc, &none, page)
 }
 
 fn json_text(
@@ -77,11 +153,27 @@ fn refusal_text(alloc: Global, reason: &Reason) -> Result<String, AllocError>
     value.to_string(alloc)
 }
 
-fn bucket_text(alloc: Global, row: &BucketRow) -> Result<String, AllocError>
-    ensures { IfOk result (λ text. string_bytes text ≡ compact_text (bucket_data row.now)) }
+fn bucket_text(alloc: Global, request: &Request, row: &BucketRow) -> Result<String, AllocError>
+    ensures { IfOk result (λ text. string_bytes text ≡ compact_text (masked request.now (bucket_data row.now))) }
 {
     let value = bucket_value(alloc, row)?;
-    value.to_string(alloc)
+    let part = mask_value(alloc, request, value)?;
+    part.to_string(alloc)
+}
+
+// The part of a resource that a request asks for. `Err`: no memory.
+fn mask_value(alloc: Global, request: &Request, value: Value) -> Result<Value, AllocError>
+    requires { has_float (view value) ≡ false }
+    ensures value { IfOk result (λ part. view part ≡ masked request.now (view value)) }
+    ensures whole { IfOk result (λ part. has_float (view part) ≡ false) }
+{
+    match request {
+        Request::Refused(_) => Ok(value),
+        Request::Asks { call, .. } => match &call.mask {
+            MaskPart::Is(mask) => apply(alloc, mask, value),
+            MaskPart::Absent | MaskPart::Fault(_) => Ok(value),
+        },
+    }
 }
 
 fn resource_text(
@@ -90,10 +182,11 @@ fn resource_text(
     row: &Row,
     settings: &Settings,
 ) -> Result<String, AllocError>
-    ensures { IfOk result (λ text. string_bytes text ≡ compact_text (object_data (bucket_in request.now) row.now settings.now)) }
+    ensures { IfOk result (λ text. string_bytes text ≡ compact_text (masked request.now (object_data (bucket_in request.now) row.now settings.now))) }
 {
     let value = resource_of(alloc, request, row, settings)?;
-    value.to_string(alloc)
+    let part = mask_value(alloc, request, value)?;
+    part.to_string(alloc)
 }
 
 fn resource_of(

@@ -1,14 +1,15 @@
 //! What JSON bodies give.
-ghost use Rattle.std.specs.Prelude.{◌≡◌, ℕ, List, IfOk, IfErr, Ok, Some, None, true};
+ghost use Rattle.std.specs.Prelude.{◌≡◌, ℕ, List, IfOk, IfErr, Ok, Some, None, true, false};
 ghost use Rattle.gcs_json.specs.Bucket.{bucket_of};
 ghost use Rattle.gcs_session.specs.Bodies.{is_text, IsGathered};
-ghost use Rattle.gcs_session.specs.Calls.{body_refusal, json_refusal, said_fault, IsSaidBy};
+ghost use Rattle.gcs_json.specs.Object.{object_of};
+ghost use Rattle.gcs_session.specs.Calls.{body_refusal, changes_object, fault_in, json_refusal, said_fault, IsSaidBy};
 ghost use Rattle.gcs_session.specs.Scripts.{IsGivenInLimits};
 
 use crate::body::Body;
 use crate::bounded::TextFault;
 use crate::requests::Given;
-use gcs_json::{BodyFault, read_bucket_body};
+use gcs_json::{BodyFault, read_bucket_body, read_object_body};
 use gcs_meaning::{Key, Reason};
 use std::alloc::Global;
 
@@ -34,7 +35,7 @@ pub fn read_given(alloc: Global, row: u32, encoded: bool, body: Body) -> Result<
             drop(text);
             Err(invalid(Key::HeadContentEncoding))
         }
-        Ok(text) => read_bucket(alloc, row, &text),
+        Ok(text) => read_json(alloc, row, &text),
         Err(TextFault::TooLong) => Err(GivenFault::Refused(Reason::TooLong)),
         Err(TextFault::NoMemory) => Err(GivenFault::NoMemory),
     }
@@ -46,8 +47,40 @@ fn invalid(key: Key) -> GivenFault
     GivenFault::Refused(Reason::Invalid { key })
 }
 
-// What the body of a bucket says.
+// What a body says on its row: of an object, or of a bucket.
+fn read_json(alloc: Global, row: u32, text: &[u8]) -> Result<Given, GivenFault>
+    ensures given { IfOk result (λ given. (body_refusal row text.now ≡ None) × IsSaidBy row text.now given) }
+    ensures refused { IfErr result (λ fault. (reason : Reason) → fault ≡ GivenFault.Refused reason → body_refusal row text.now ≡ Some reason) }
+    ensures limits { IfOk result (λ given. IsGivenInLimits given) }
+{
+    if changes_object(row) {
+        read_object(alloc, row, text)
+    } else {
+        read_bucket(alloc, row, text)
+    }
+}
+
+// Whether the requests of a row patch or replace the metadata of an object.
+fn changes_object(row: u32) -> bool
+    ensures { result ≡ changes_object row }
+{
+    matches!(row, 11 | 12)
+}
+
+fn read_object(alloc: Global, row: u32, text: &[u8]) -> Result<Given, GivenFault>
+    requires { changes_object row ≡ true }
+    ensures given { IfOk result (λ given. (body_refusal row text.now ≡ None) × IsSaidBy row text.now given) }
+    ensures refused { IfErr result (λ fault. (reason : Reason) → fault ≡ GivenFault.Refused reason → body_refusal row text.now ≡ Some reason) }
+    ensures limits { IfOk result (λ given. IsGivenInLimits given) }
+{
+    match read_object_body(alloc, row, text) {
+        Ok(body) => Ok(Given::Object(body)),
+        Err(fault) => Err(fault_of(fault)),
+    }
+}
+
 fn read_bucket(alloc: Global, row: u32, text: &[u8]) -> Result<Given, GivenFault>
+    requires { changes_object row ≡ false }
     ensures given { IfOk result (λ given. (body_refusal row text.now ≡ None) × IsSaidBy row text.now given) }
     ensures refused { IfErr result (λ fault. (reason : Reason) → fault ≡ GivenFault.Refused reason → body_refusal row text.now ≡ Some reason) }
     ensures limits { IfOk result (λ given. IsGivenInLimits given) }

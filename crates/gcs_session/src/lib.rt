@@ -3,8 +3,10 @@
 
 mod alone;
 mod answering;
+mod asks;
 mod body;
 mod bounded;
+mod calls;
 mod coming;
 mod connection;
 mod ends;
@@ -14,6 +16,7 @@ mod heads;
 mod inserts;
 mod json;
 mod json_bodies;
+mod lists;
 mod media;
 mod ranges;
 mod reply;
@@ -30,13 +33,5 @@ pub use ends::SessionEnd;
 pub use ranges::law_ranges;
 pub use session::{Fed, Session, Want};
 
-#[cfg(test)]
-mod breaks;
-#[cfg(test)]
-mod conversations;
-#[cfg(test)]
-mod replying;
-#[cfg(test)]
-mod stage;
 #[cfg(test)]
 mod tests;

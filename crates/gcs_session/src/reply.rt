@@ -5,7 +5,7 @@ ghost use Rattle.gcs_session.specs.Replies.{bare_text, fault_text, fixed_of, is_
 ghost use Rattle.gcs_session.specs.Running.{outgoing_bytes};
 
 use crate::excerpt::Excerpt;
-use crate::json::{bucket_reply, refusal_reply, resource_reply};
+use crate::json::{bucket_reply, buckets_reply, page_reply, refusal_reply, resource_reply};
 use crate::media::media_reply;
 use crate::reply_fields::ReplyFields;
 use crate::requests::Request;
@@ -103,8 +103,11 @@ pub fn write_reply(
         Reply::Refused(reason) => refusal_reply(alloc, form, reason),
         Reply::Object(row, settings) => resource_reply(alloc, form, request, row, settings),
         Reply::Media { row, part } => media_reply(alloc, form, row, *part),
-        Reply::Bucket(row) => bucket_reply(alloc, form, row),
+        Reply::Bucket(row) => bucket_reply(alloc, form, request, row),
+        Reply::Buckets(rows, token) => buckets_reply(alloc, form, request, rows, token),
+        Reply::Page(page) => page_reply(alloc, form, request, page),
         Reply::NoContent => bare_reply(alloc, form, 204),
+        Reply::NotModified => bare_reply(alloc, form, 304),
     }
 }
 

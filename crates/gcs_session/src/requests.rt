@@ -1,5 +1,5 @@
 //! What a message asks for: what its head alone wants, and the whole request once its body is there.
-ghost use Rattle.std.specs.Prelude.{◌≡◌, ℕ, List, IfOk, IfErr, Some};
+ghost use Rattle.std.specs.Prelude.{◌≡◌, ℕ, List, IfOk, IfErr, Some, None};
 ghost use Rattle.gcs_http_in.specs.declared.limits.Limits.{Limits};
 ghost use Rattle.gcs_http_in.specs.Head.{Head};
 ghost use Rattle.gcs_meaning.specs.Desk.{AreUnmoved};
@@ -10,11 +10,12 @@ ghost use Rattle.gcs_session.specs.Heads.{IsReadOf};
 ghost use Rattle.gcs_session.specs.Scripts.{IsAskable, IsGivenInLimits};
 
 use crate::body::Body;
+use crate::calls::head_refusal;
 use crate::heads::{HeadFields, is_given, method_by, range_of, text_of};
 use crate::json_bodies::{GivenFault, read_given};
 use crate::ranges::Range;
-use gcs_json::BucketBody;
-use gcs_meaning::{Desk, Hashed, Key, Reason, Text};
+use gcs_json::{BucketBody, ObjectBody};
+use gcs_meaning::{Desk, Hashed, Reason, Text};
 use gcs_route::{Call, RouteFault, route};
 use std::alloc::{AllocError, Global};
 
@@ -35,6 +36,8 @@ pub enum Given {
     Whole { kind: Option<Text>, hashed: Hashed },
     /// What the JSON body of a bucket says.
     Bucket(BucketBody),
+    /// What the JSON body of an object says.
+    Object(ObjectBody),
 }
 
 /// What a head asks for, before its body has come.
@@ -71,12 +74,12 @@ pub fn read_head(alloc: Global, fields: &HeadFields<'_>) -> Result<Wanted, Alloc
 fn wanted_of(alloc: Global, call: Call, fields: &HeadFields<'_>) -> Result<Wanted, AllocError>
     ensures { IfOk result (λ wanted. (head : Head) → IsReadOf head fields.now → IsCallOf head call → IsWanted head wanted) }
 {
-    if let Some(reason) = head_refusal(&call) {
-        drop(call);
-        return Ok(Wanted::Refused(reason));
-    }
-    match part_of(alloc, &call, fields) {
-        Ok(part) => Ok(Wanted::Asks { call, part }),
+    match head_refusal(alloc, &call) {
+        Ok(None) => with_part(alloc, call, fields),
+        Ok(Some(reason)) => {
+            drop(call);
+            Ok(Wanted::Refused(reason))
+        }
         Err(error) => {
             drop(call);
             Err(error)
@@ -84,13 +87,17 @@ fn wanted_of(alloc: Global, call: Call, fields: &HeadFields<'_>) -> Result<Wante
     }
 }
 
-fn head_refusal(call: &Call) -> Option<Reason>
-    ensures { result ≡ head_refusal call.now }
+// The call with what the head gives beside it.
+fn with_part(alloc: Global, call: Call, fields: &HeadFields<'_>) -> Result<Wanted, AllocError>
+    requires { head_refusal call ≡ None }
+    ensures { IfOk result (λ wanted. (head : Head) → IsReadOf head fields.now → IsCallOf head call → IsWanted head wanted) }
 {
-    if call.row == 18 && call.name.is_none() {
-        Some(Reason::Required { key: Key::Name })
-    } else {
-        None
+    match part_of(alloc, &call, fields) {
+        Ok(part) => Ok(Wanted::Asks { call, part }),
+        Err(error) => {
+            drop(call);
+            Err(error)
+        }
     }
 }
 
@@ -120,7 +127,7 @@ fn part_of(alloc: Global, call: &Call, fields: &HeadFields<'_>) -> Result<HeadPa
 fn brings_json(row: u32) -> bool
     ensures { result ≡ brings_json row }
 {
-    matches!(row, 1 | 4 | 5)
+    matches!(row, 1 | 4 | 5 | 11 | 12)
 }
 
 /// The request of what was wanted, once the body has come. `Err`: memory lacked for the body.

@@ -1,16 +1,13 @@
 //! The steps of a request, one after the other, and what it says at the end.
-ghost use Rattle.std.specs.Prelude.{◌≡◌, IfOk, unwrap_or};
-ghost use Rattle.gcs_meaning.specs.Moment.{shard_number};
-ghost use Rattle.gcs_meaning.specs.ObjectChanges.{default_content_type};
-ghost use Rattle.gcs_session.specs.Scripts.{bare_move, bucket_change_move, bucket_move, first_move, get_move, insert_move, no_expect, object_reply, put_move, range_given, reply_of, script, upload_meta};
+ghost use Rattle.std.specs.Prelude.{◌≡◌, IfOk};
+ghost use Rattle.gcs_session.specs.Scripts.{is_not_match, is_read, is_unchanged, object_reply, range_given, refused_reply, reply_of, script, single_script};
 
-use crate::inserts::inserted_settings;
+use crate::asks::first_move;
+use crate::lists::list_buckets;
 use crate::ranges::{Range, range_reply};
 use crate::requests::{Given, Request};
-use gcs_json::BucketBody;
 use gcs_meaning::{
-    Answer, BucketName, BucketRow, Command, Copied, Expect, Hashed, Meta, Name, Pairs, Reason, Row,
-    Settings, Text, shard_of,
+    Answer, BucketRow, Command, Copied, Key, List, Page, Reason, Row, Settings, Text,
 };
 use gcs_route::Call;
 use std::alloc::{AllocError, Global};
@@ -20,10 +17,15 @@ use std::alloc::{AllocError, Global};
 pub enum Reply {
     Refused(Reason),
     Bucket(BucketRow),
+    /// A page of buckets, and the token of the next one, where more are left.
+    Buckets(List<BucketRow>, Option<Text>),
     Object(Row, Settings),
+    Page(Page),
     /// The bytes of a version, or the part of them from the first of these places up to and with the last.
     Media { row: Row, part: Option<(u64, u64)> },
     NoContent,
+    /// What is read has the very number that the reader has.
+    NotModified,
 }
 
 /// What a request does next: a step in a shard, or its reply.
@@ -39,10 +41,23 @@ pub fn next(alloc: Global, request: &Request, answers: &[Answer]) -> Result<Move
 {
     match request {
         Request::Refused(reason) => Ok(Move::Say(Reply::Refused(*reason))),
-        Request::Asks { call, given } => match answers {
-            [] => first_move(alloc, call, given),
-            [answer, ..] => Ok(Move::Say(say(call, given, answer)?)),
-        },
+        Request::Asks { call, .. } if call.row == 2 => list_buckets(alloc, call, answers),
+        Request::Asks { call, given } => next_single(alloc, call, given, answers),
+    }
+}
+
+// The next move of a call with one step.
+fn next_single(
+    alloc: Global,
+    call: &Call,
+    given: &Given,
+    answers: &[Answer],
+) -> Result<Move, AllocError>
+    ensures { IfOk result (λ next. next ≡ single_script call.now given.now answers.now) }
+{
+    match answers {
+        [] => first_move(alloc, call, given),
+        [answer, ..] => Ok(Move::Say(say(call, given, answer)?)),
     }
 }
 
@@ -54,9 +69,47 @@ fn say(call: &Call, given: &Given, answer: &Answer) -> Result<Reply, AllocError>
         Answer::Object(row, settings) => say_object(call, given, row, settings),
         Answer::Bucket(row) => Ok(Reply::Bucket(row.copy()?)),
         Answer::Empty => Ok(Reply::NoContent),
-        Answer::Refused(reason) => Ok(Reply::Refused(*reason)),
+        Answer::Page(page) => Ok(Reply::Page(page.copy()?)),
+        Answer::Refused(reason) => Ok(say_refusal(call.row, *reason)),
         _ => Ok(Reply::Refused(Reason::NotBuilt)),
     }
+}
+
+// What a call on the row says of a refusal.
+fn say_refusal(row: u32, reason: Reason) -> Reply
+    ensures { result ≡ refused_reply row reason }
+{
+    if is_unchanged(row, reason) {
+        Reply::NotModified
+    } else {
+        Reply::Refused(reason)
+    }
+}
+
+// Whether what is read has the very number that the reader has (RFC 9110, 13.1.2).
+fn is_unchanged(row: u32, reason: Reason) -> bool
+    ensures { result ≡ is_unchanged row reason }
+{
+    match reason {
+        Reason::Condition { which, .. } => is_read(row) && is_not_match(which),
+        _ => false,
+    }
+}
+
+// Whether the requests of a row read a bucket or a version.
+fn is_read(row: u32) -> bool
+    ensures { result ≡ is_read row }
+{
+    matches!(row, 3 | 10 | 21)
+}
+
+fn is_not_match(which: Key) -> bool
+    ensures { result ≡ is_not_match which }
+{
+    matches!(
+        which,
+        Key::IfGenerationNotMatch | Key::IfMetagenerationNotMatch
+    )
 }
 
 // A version as a read of bytes, or any other call, says it.
@@ -82,183 +135,5 @@ fn range_given(given: &Given) -> Option<Range>
     match given {
         Given::Read { range } => *range,
         _ => None,
-    }
-}
-
-// The command of a call, or that it is not built.
-fn first_move(alloc: Global, call: &Call, given: &Given) -> Result<Move, AllocError>
-    ensures { IfOk result (λ next. next ≡ first_move call.now given.now) }
-{
-    match given {
-        Given::Nothing => ask_bare(call),
-        Given::Read { .. } => ask_get(call),
-        Given::Whole { kind, hashed } => ask_put(alloc, call, kind, hashed),
-        Given::Bucket(body) => ask_bucket(alloc, call, body),
-    }
-}
-
-fn not_built() -> Move
-    ensures { result ≡ Move.Say (Reply.Refused Reason.NotBuilt) }
-{
-    Move::Say(Reply::Refused(Reason::NotBuilt))
-}
-
-// A step in the shard of that bucket.
-fn ask(bucket: &BucketName, command: Command) -> Move
-    ensures { result ≡ Move.Ask (shard_number bucket.now) command }
-{
-    Move::Ask {
-        shard: shard_of(bucket.as_bytes()),
-        command,
-    }
-}
-
-// The command of a call that gives nothing beside it.
-fn ask_bare(call: &Call) -> Result<Move, AllocError>
-    ensures { IfOk result (λ next. next ≡ bare_move call.now) }
-{
-    let Some(name) = call.buckets.get(0) else {
-        return Ok(not_built());
-    };
-    let pre = call.pre;
-    match call.row {
-        3 => {
-            let bucket = name.copy()?;
-            Ok(ask(name, Command::BucketGet { bucket, pre }))
-        }
-        6 => {
-            let bucket = name.copy()?;
-            Ok(ask(name, Command::BucketDelete { bucket, pre }))
-        }
-        _ => Ok(not_built()),
-    }
-}
-
-// The insert of a bucket, or its change.
-fn ask_bucket(alloc: Global, call: &Call, body: &BucketBody) -> Result<Move, AllocError>
-    ensures { IfOk result (λ next. next ≡ bucket_move call.now body.now) }
-{
-    if call.row == 1 {
-        ask_insert(alloc, body)
-    } else {
-        ask_bucket_change(call, body)
-    }
-}
-
-fn ask_insert(alloc: Global, body: &BucketBody) -> Result<Move, AllocError>
-    ensures { IfOk result (λ next. next ≡ insert_move body.now.name body.now) }
-{
-    let Some(name) = &body.name else {
-        return Ok(not_built());
-    };
-    let bucket = name.copy()?;
-    let settings = inserted_settings(alloc, body)?;
-    Ok(ask(name, Command::BucketInsert { bucket, settings }))
-}
-
-fn ask_bucket_change(call: &Call, body: &BucketBody) -> Result<Move, AllocError>
-    ensures { IfOk result (λ next. next ≡ bucket_change_move call.now body.now) }
-{
-    let Some(name) = call.buckets.get(0) else {
-        return Ok(not_built());
-    };
-    let bucket = name.copy()?;
-    let change = body.change.copy()?;
-    Ok(ask(
-        name,
-        Command::BucketChange {
-            bucket,
-            pre: call.pre,
-            change,
-            whole: call.row == 5,
-        },
-    ))
-}
-
-fn ask_get(call: &Call) -> Result<Move, AllocError>
-    ensures { IfOk result (λ next. next ≡ get_move call.now) }
-{
-    let (Some(place), Some(name)) = (call.buckets.get(0), call.objects.get(0)) else {
-        return Ok(not_built());
-    };
-    let bucket = place.copy()?;
-    let name = name.copy()?;
-    Ok(ask(
-        place,
-        Command::Get {
-            bucket,
-            name,
-            generation: call.generation,
-            soft: call.soft,
-            pre: call.pre,
-        },
-    ))
-}
-
-fn ask_put(
-    alloc: Global,
-    call: &Call,
-    kind: &Option<Text>,
-    hashed: &Hashed,
-) -> Result<Move, AllocError>
-    ensures { IfOk result (λ next. next ≡ put_move call.now call.now.name kind.now hashed.now) }
-{
-    let (Some(place), Some(name)) = (call.buckets.get(0), &call.name) else {
-        return Ok(not_built());
-    };
-    let bucket = place.copy()?;
-    let name = Name::new(name.copy()?);
-    let meta = upload_meta(alloc, kind, &call.encoding)?;
-    let hashed = hashed.copy()?;
-    Ok(ask(
-        place,
-        Command::Put {
-            bucket,
-            name,
-            pre: call.pre,
-            meta,
-            hashed,
-            components: None,
-            expect: no_expect(),
-        },
-    ))
-}
-
-fn no_expect() -> Expect
-    ensures { result ≡ no_expect }
-{
-    Expect {
-        crc: None,
-        md5: None,
-    }
-}
-
-fn upload_meta(
-    alloc: Global,
-    kind: &Option<Text>,
-    encoding: &Option<Text>,
-) -> Result<Meta, AllocError>
-    ensures { IfOk result (λ meta. meta ≡ upload_meta kind.now encoding.now) }
-{
-    Ok(Meta {
-        content_type: type_of(alloc, kind)?,
-        cache_control: None,
-        content_disposition: None,
-        content_encoding: encoding.copy()?,
-        content_language: None,
-        storage_class: None,
-        custom_time: None,
-        temporary_hold: false,
-        event_hold: None,
-        custom: Pairs::new(alloc),
-    })
-}
-
-fn type_of(alloc: Global, kind: &Option<Text>) -> Result<Text, AllocError>
-    ensures { IfOk result (λ made. made ≡ unwrap_or kind.now default_content_type) }
-{
-    match kind {
-        Some(kind) => kind.copy(),
-        None => Text::from_str(alloc, "application/octet-stream"),
     }
 }

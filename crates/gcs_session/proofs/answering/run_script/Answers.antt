@@ -1,10 +1,10 @@
-use Rattle.std.proofs.Common.{◌≡◌, ◌∙◌, ◌++◌, ◌∷◌, [], ◌+◌, ℕ, List, ap, sym, subst, length, arith, length-append, not, nat_eq}
+use Rattle.std.proofs.Common.{◌≡◌, ◌<◌, ◌∙◌, ◌++◌, ◌∷◌, [], ◌+◌, ℕ, List, ap, sym, subst, length, arith, length-append, not, nat_eq}
 use Rattle.gcs_meaning.specs.declared.command.Answer.{Answer}
 use Rattle.gcs_meaning.specs.Desk.{IsStepped}
 use Rattle.gcs_session.specs.declared.script.Move.TheVariants.{Ask}
 use Rattle.gcs_session.specs.Scripts.{script, Asks}
 use Rattle.gcs_session.specs.Running.{lengths}
-use Rattle.gcs_session.proofs.Steps.{IsRun, run-step, run-same, asks_may, asks_once, some_more, none_yet}
+use Rattle.gcs_session.proofs.Steps.{IsRun, run-step, run-same, asks_may, asks_few, some_more, none_yet}
 use Rattle.gcs_session.proofs.answering.run_script.Goals as goal
 
 pub returns-in-Err-call-clause-grows : goal.returns-in-Err-call-clause-grows
@@ -70,7 +70,7 @@ loop-preserved g c =
     let P : ℕ → Type 0 = λ n. IsStepped n (d.seen c.loop.desk) (d.mine c.loop.desk) (d.seen c.call.new.self) (d.mine c.call.new.self) c.in-Ok-Ask.shard c.args.moment c.in-Ok-Ask.command c.in-Ok.answer in
     let stepped : P k = subst P c.loop.invariant.caller c.in-Ok.ensures.lists in
     let now = run-step _ _ k _ _ _ _ (d.seen c.call.new.self) (d.mine c.call.new.self) _ _ _ c.in-Ok.answer so_far asks stepped in
-    let none : length c.loop.answers.items ≡ 0 = ap length (asks_once _ _ _ _ asks) in
+    let few : length c.loop.answers.items < 16 = asks_few c.args.request.now c.loop.answers.items c.in-Ok-Ask.shard c.in-Ok-Ask.command asks in
     let one : length c.push.new.self.items ≡ length c.loop.answers.items + 1 = ap length c.in-Ok-push.ensures.items ∙ length-append c.loop.answers.items (c.in-Ok.answer ∷ []) in
     record {
       caller = c.call.ensures.caller ∙ c.loop.invariant.caller;
@@ -78,7 +78,7 @@ loop-preserved g c =
       sound = now.sound;
       asked = let Q : List Answer → Type 0 = λ ans. Asks c.args.request.now [] ans c.args.moment (d.seen c.call.new.self) k (lengths (d.mine c.args.desk.now)) (lengths (d.mine c.call.new.self)) in subst Q (sym c.in-Ok-push.ensures.items) now.asked;
       count = one ∙ ap (λ n. n + 1) c.loop.invariant.count;
-      few = omega (arith, none, one);
+      few = omega (arith, few, one);
     }
 
 pub call-requires-clause-shard : goal.call-requires-clause-shard

@@ -13,5 +13,5 @@ invariant-loop g l =
       sound : AreLists (d.caller l.fn.desk) (d.seen l.fn.desk) (d.mine l.fn.desk) → AreLists (d.caller l.fn.desk) (d.seen l.desk) (d.mine l.desk);
       asked : Asks l.request [] l.answers.items l.moment (d.seen l.desk) (d.caller l.fn.desk) (lengths (d.mine l.fn.desk)) (lengths (d.mine l.desk));
       count : length l.answers.items ≡ l.counter;
-      few : length l.answers.items ≤ 1;
+      few : length l.answers.items ≤ 16;
     }
