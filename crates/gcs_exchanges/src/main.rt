@@ -1,0 +1,58 @@
+//! Worked exchanges: what clients send and what must be written back, as files, and a line a row that tells whether it is.
+#![tactic(auto)]
+
+mod course;
+mod failure;
+mod limits;
+mod line;
+mod row;
+mod serving;
+mod store;
+mod trying;
+mod wire;
+
+use failure::Failure;
+use row::{Row, read_rows};
+use std::alloc::{AllocError, Global};
+use std::process::ExitCode;
+use std::rt::Files;
+use std::{env, fs, io};
+use trying::try_row;
+
+fn main(rt: HostRuntime) -> io::Result<ExitCode> {
+    let mut all_ok = true;
+    for path in env::args(&rt)?.skip(1) {
+        all_ok &= run_file(&rt, path.as_str())?;
+    }
+    Ok(if all_ok {
+        ExitCode::SUCCESS
+    } else {
+        ExitCode::FAILURE
+    })
+}
+
+// Prints a line for each row of the file, and answers whether all rows are as they must be.
+fn run_file(rt: &(impl Files + Print + AllocGlobal), path: &str) -> io::Result<bool> {
+    let text = fs::read_to_string(rt, path)?;
+    let rows = read_rows(rt.alloc(), text.as_str())?;
+    let mut all_ok = true;
+    for row in &rows {
+        all_ok &= run_row(rt, rt.alloc(), path, row)?;
+    }
+    Ok(all_ok)
+}
+
+fn run_row(rt: &impl Print, alloc: Global, path: &str, row: &Row<'_>) -> io::Result<bool> {
+    let name = row.name;
+    match try_row(alloc, row) {
+        Ok(()) => {
+            println!(rt; "ok {name}")?;
+            Ok(true)
+        }
+        Err(Failure::NoMemory) => Err(AllocError.into()),
+        Err(failure) => {
+            println!(rt; "FAILED {name}: {path}: {failure}")?;
+            Ok(false)
+        }
+    }
+}
