@@ -122,13 +122,3 @@ md5_of_text-iff text value h = (
 pub crc_of_text-none : (text : List ℕ) → bytes_of_text 4 text ≡ None → crc_of_text text ≡ None
 unfolding crc_of_text
 crc_of_text-none text none = ap (option_map (from_be_bytes w32)) none
-
-pub IsCrcText-none : (text : List ℕ) → IsBytes text → bytes_of_text 4 text ≡ None → (value : ℕ) → IsCrcText text value → ⊥
-IsCrcText-none text h none value is =
-    let found = (crc_of_text-iff text value h).1 is in
-    let missing = crc_of_text-none text none in cc
-
--- where no sixteen bytes have the text, no MD5 has it
-pub IsMd5Text-none : (text : List ℕ) → IsBytes text → bytes_of_text 16 text ≡ None → (value : List ℕ) → IsMd5Text text value → ⊥
-unfolding md5_of_text
-IsMd5Text-none text h none value is = let found = (md5_of_text-iff text value h).1 is in cc

@@ -1,4 +1,4 @@
-// The CRC32C of bytes that come in pieces, eight bytes at a time by tables.
+//! The CRC32C of bytes that come in pieces, eight bytes at a time by tables.
 ghost use Rattle.std.specs.Prelude.{◌≡◌, ◌+◌, ◌*◌, ◌<◌, ◌++◌, List, ℕ, []};
 ghost use Rattle.gcs_crc.specs.Crc.{crc, crc_bits, crc_register, joined, Stands};
 

@@ -1,4 +1,4 @@
-// The CRC32C and the MD5 of bytes that come in pieces, side by side.
+//! The CRC32C and the MD5 of bytes that come in pieces, side by side.
 ghost use Rattle.std.specs.Prelude.{◌≡◌, ◌++◌, List, ℕ, []};
 ghost use Rattle.gcs_crc.specs.Crc.{crc};
 ghost use Rattle.gcs_crc.specs.Digests.{StandsAfter};

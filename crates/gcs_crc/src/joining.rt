@@ -1,4 +1,4 @@
-// The CRC32C of two texts, one after the other, from the CRC32C of each.
+//! The CRC32C of two texts, one after the other, from the CRC32C of each.
 ghost use Rattle.std.specs.Prelude.{◌≡◌, ◌*◌, ◌++◌, List, ℕ, length};
 ghost use Rattle.gcs_crc.specs.Crc.{crc, crc_bit, crc_bits};
 
@@ -6,7 +6,8 @@ ghost use Rattle.gcs_crc.specs.Crc.{crc, crc_bit, crc_bits};
 // in multiplies it by x.
 const POLYNOMIAL: u32 = 0x82F6_3B78;
 
-const X_TO_THE_8: u32 = 0x0080_0000;
+// x to the eighth, by which a byte 0 multiplies.
+const ZERO_BYTE: u32 = 0x0080_0000;
 
 /// The CRC32C of two texts joined: `a` and `b` are those of the first and of the second, `len_b` is the second's
 /// length in bytes.
@@ -23,7 +24,7 @@ fn after_zero_bytes(register: u32, count: u64) -> u32
     ensures { result ≡ crc_bits (8 * count) register 0 }
 {
     let mut register = register;
-    let mut power = X_TO_THE_8;
+    let mut power = ZERO_BYTE;
     let mut count = count;
     while count > 0 {
         if count % 2 == 1 {

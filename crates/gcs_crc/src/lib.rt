@@ -5,12 +5,12 @@
 mod crc;
 mod digests;
 mod joining;
+mod laws;
 mod tables;
-#[cfg(test)]
-mod tests;
 mod texts;
 
 pub use crc::Crc;
 pub use digests::Digests;
 pub use joining::combine;
+pub use laws::law_texts;
 pub use texts::{BadDigest, crc_text, md5_text, read_crc, read_md5};

@@ -1,4 +1,4 @@
-// The registers to which each byte leads through one to eight bytes 0, by which eight bytes are taken at once.
+//! The registers to which each byte leads through one to eight bytes 0, by which eight bytes are taken at once.
 
 /// Entry `k` of table `n` is the register that begins as `k`, after `n + 1` bytes 0.
 #[rattlefmt::skip]

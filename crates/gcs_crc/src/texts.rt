@@ -1,6 +1,6 @@
-// Digests as the texts that the service shows and takes: base64 with padding (RFC 4648, 4).
-ghost use Rattle.std.specs.Prelude.{◌≡◌, ◌<◌, ◌^◌, ℕ, List, length, IfOk, Err, Some, None, string_bytes};
-ghost use Rattle.gcs_crc.specs.Text.{crc_text_of, md5_text_of, IsCrcText, IsMd5Text, bytes_of_text, crc_of_text, md5_of_text};
+//! Digests as the texts that the service shows and takes: base64 with padding (RFC 4648, 4).
+ghost use Rattle.std.specs.Prelude.{◌≡◌, length, IfOk, Err, Some, None, string_bytes};
+ghost use Rattle.gcs_crc.specs.Text.{crc_text_of, md5_text_of, bytes_of_text, crc_of_text, md5_of_text};
 
 use base64::DecodeAllocError;
 use base64::engine::general_purpose::STANDARD;
@@ -34,10 +34,9 @@ pub fn md5_text(alloc: Global, value: &[u8; 16]) -> Result<String, AllocError>
 }
 
 /// The CRC32C that has this text: padding and the bits past the last byte are as `crc_text` writes them.
+///
+/// `law_texts` says that a text is read exactly where it is that CRC32C's own.
 pub fn read_crc(alloc: Global, text: &[u8]) -> Result<u32, BadDigest>
-    ensures read { IfOk result (λ value. IsCrcText text.now value) }
-    ensures form { result ≡ Err BadDigest.Form → (value : ℕ) → IsCrcText text.now value → ⊥ }
-
     ensures found { IfOk result (λ value. crc_of_text text.now ≡ Some value) }
     ensures none { result ≡ Err BadDigest.Form → crc_of_text text.now ≡ None }
 {
@@ -48,10 +47,9 @@ pub fn read_crc(alloc: Global, text: &[u8]) -> Result<u32, BadDigest>
 }
 
 /// The MD5 that has this text: padding and the bits past the last byte are as `md5_text` writes them.
+///
+/// `law_texts` says that a text is read exactly where it is that MD5's own.
 pub fn read_md5(alloc: Global, text: &[u8]) -> Result<[u8; 16], BadDigest>
-    ensures read { IfOk result (λ value. IsMd5Text text.now value) }
-    ensures form { result ≡ Err BadDigest.Form → (value : List ℕ) → IsMd5Text text.now value → ⊥ }
-
     ensures found { IfOk result (λ value. md5_of_text text.now ≡ Some value) }
     ensures none { result ≡ Err BadDigest.Form → md5_of_text text.now ≡ None }
 {

@@ -3,13 +3,8 @@ use Rattle.std.proofs.lemmas.Result.{err_from_is_err_and}
 use Rattle.std.specs.Int.{w32, from_be_bytes}
 use Rattle.std.specs.Prelude.{option_map}
 use Rattle.gcs_crc.specs.Text.{crc_of_text}
-use Rattle.gcs_crc.proofs.TextLemmas.{crc_of_text-iff, crc_of_text-none, IsCrcText-none}
+use Rattle.gcs_crc.proofs.TextLemmas.{crc_of_text-none}
 use Rattle.gcs_crc.proofs.texts.read_crc.Goals as goal
-
-pub returns-in_err-bytes-clause-form : goal.returns-in_err-bytes-clause-form
-returns-in_err-bytes-clause-form c = λ e.
-    let p = err_from_is_err_and c.from_residual.result c.from_residual.ensures.1 in
-    IsCrcText-none c.args.text.now (λ i. (c.type_inv.text i).fits) (c.in_err-bytes.ensures.none cc)
 
 pub returns-in_err-bytes-clause-none : goal.returns-in_err-bytes-clause-none
 returns-in_err-bytes-clause-none c = λ e.
@@ -21,6 +16,3 @@ unfolding crc_of_text
 returns-clause-found c =
     ap (option_map (from_be_bytes w32)) c.in_ok-bytes.ensures.found
     ∙ ap Some (sym (c.from_be_bytes.ensures ∙ ap (from_be_bytes w32) (c.copy_from_slice.ensures.after ∙ c.deref.ensures.value)))
-
-pub returns-clause-read : goal.returns-clause-read
-returns-clause-read c = (crc_of_text-iff c.args.text.now c.from_be_bytes.result (λ i. (c.type_inv.text i).fits)).0 (returns-clause-found c)
