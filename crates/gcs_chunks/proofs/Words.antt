@@ -1,13 +1,13 @@
 -- What the words of a content say of its bytes, for this crate and for those above it.
 use Rattle.std.proofs.Common.{◌≡◌, ◌<◌, ◌≤◌, refl, sym, ap, ap₂, ◌∙◌, arith, ℕ, ◌+◌, ◌-◌, Bool, true, false, nat_lt, List, [], ◌∷◌, ◌++◌, drop, take, length, get_or}
 use Rattle.std.specs.Prelude.{slice_range, if◌then◌else◌, min}
-use Rattle.std.proofs.lemmas.Bool.{ltb-true, ltb-false, le-ltb}
+use Rattle.std.proofs.lemmas.Bool.{ltb-true, ltb-false}
 use Rattle.std.proofs.lemmas.List.{append_assoc, append-nil, drop-append-le, drop-drop, drop-take, length-drop}
 use Rattle.std.proofs.lemmas.List.{length-take}
 use Rattle.std.proofs.lemmas.List.{take-take, length-take-le}
 use Rattle.std.proofs.Math.Seq.{drop-append-add, drop-nil, drop-cons, take-add, take-append_seam, drop-append_seam}
 use Rattle.std.proofs.Math.Numerals.{add-one}
-use Rattle.gcs_chunks.specs.Content.{Chunk, Part, Whole, bytes_of, bytes_of_piece, joined, no_content, part_bytes, parts_bytes, part_of, rest_of, rest_parts}
+use Rattle.gcs_chunks.specs.Content.{Chunk, Part, Whole, bytes_of, bytes_of_piece, joined, no_content, part_bytes, parts_bytes, part_of, rest_parts}
 
 -- the content without bytes has none
 pub bytes_of-no_content : bytes_of no_content ≡ []
@@ -23,11 +23,6 @@ parts_bytes-append (x ∷ xs) ys = ap (λ l. part_bytes x ++ l) (parts_bytes-app
 pub bytes_of-joined : (first second : Whole) → bytes_of (joined first second) ≡ bytes_of first ++ bytes_of second
 unfolding bytes_of joined
 bytes_of-joined first second = parts_bytes-append first.parts second.parts
-
--- a content and then none is the content
-pub joined-no_content : (content : Whole) → joined content no_content ≡ content
-unfolding joined no_content
-joined-no_content content = ap (λ (parts : List Part). record { parts = parts }) (append-nil content.parts)
 
 -- a part has no more bytes than places
 pub part_short : (part : Part) → length (part_bytes part) ≤ part.to - part.from
@@ -63,11 +58,6 @@ pub bytes_of-parts : (parts : List Part) (n : ℕ) → parts_bytes (rest_parts n
 bytes_of-parts [] n = sym (drop-nil n)
 bytes_of-parts (part ∷ parts) n = rest_by (nat_lt n (length (part_bytes part))) n part parts refl (bytes_of-parts parts)
 
--- the content from a place on has the bytes from there on
-pub bytes_of-rest_of : (content : Whole) (from : ℕ) → bytes_of (rest_of content from) ≡ drop from (bytes_of content)
-unfolding bytes_of rest_of
-bytes_of-rest_of content from = bytes_of-parts content.parts from
-
 by_order : (b : Bool) (piece : Chunk) (from to : ℕ) → nat_lt from to ≡ b
     → parts_bytes (if b then record { chunk = piece; from = from; to = to } ∷ [] else []) ≡ slice_range piece.bytes from to
 by_order true piece from to less = append-nil (slice_range piece.bytes from to)
@@ -79,16 +69,6 @@ by_order false piece from to past =
 pub bytes_of-part_of : (piece : Chunk) (from to : ℕ) → bytes_of (part_of piece from to) ≡ slice_range (bytes_of_piece piece) from to
 unfolding bytes_of part_of bytes_of_piece
 bytes_of-part_of piece from to = by_order (nat_lt from to) piece from to refl
-
--- of a piece no bytes make the content without bytes
-pub part_of-none : (piece : Chunk) (from to : ℕ) → to ≤ from → part_of piece from to ≡ no_content
-unfolding part_of no_content
-part_of-none piece from to past =
-    ap (λ b. record { parts = if b then record { chunk = piece; from = from; to = to } ∷ [] else [] }) (le-ltb from to past)
-
--- the bytes seen up to a place, and then bytes that stand there, are the bytes up to their end
-pub take_on : (bytes here : List ℕ) (at : ℕ) → here ≡ take (length here) (drop at bytes) → take at bytes ++ here ≡ take (at + length here) bytes
-take_on bytes here at is = ap (λ l. take at bytes ++ l) is ∙ sym (take-add at (length here) bytes)
 
 -- the part at a place and those behind it
 pub parts_bytes-at : (parts : List Part) (i : ℕ) (part : Part) → i < length parts → part ≡ get_or parts i part

@@ -1,5 +1,5 @@
 //! The bytes of an object or of a part of one, as spans of pieces.
-ghost use Rattle.std.specs.Prelude.{◌≡◌, ◌≤◌, ◌<◌, ◌+◌, ◌-◌, ◌++◌, ◌^◌, ◌↔◌, drop, length, min, take, IfOk, IsTrue, OnOk, OnErr};
+ghost use Rattle.std.specs.Prelude.{◌≡◌, ◌≤◌, ◌<◌, ◌+◌, ◌-◌, ◌++◌, ◌^◌, ◌↔◌, drop, length, min, slice_range, take, IfOk, IsTrue, OnOk, OnErr};
 ghost use Rattle.std.specs.Arc.{arc_value};
 ghost use Rattle.gcs_chunks.specs.Content.{bytes_of, bytes_of_piece, joined, no_content, part_of, rest_of, rest_parts};
 
@@ -60,6 +60,7 @@ impl Content {
         requires within { to ≤ length (bytes_of_piece (arc_value piece.now)) }
         requires size { length (bytes_of self.old) + (to - from) < 2 ^ 63 }
         ensures ok { OnOk result (self.new ≡ joined self.old (part_of (arc_value piece.now) from to)) }
+        ensures bytes { OnOk result (bytes_of self.new ≡ bytes_of self.old ++ slice_range (bytes_of_piece (arc_value piece.now)) from to) }
         ensures err { OnErr result (self.new ≡ self.old) }
     {
         if from < to {
@@ -75,6 +76,7 @@ impl Content {
         requires from { from ≤ length (bytes_of other.now) }
         requires size { length (bytes_of self.old) + length (bytes_of other.now) < 2 ^ 63 + from }
         ensures ok { OnOk result (self.new ≡ joined self.old (rest_of other.now from)) }
+        ensures bytes { OnOk result (bytes_of self.new ≡ bytes_of self.old ++ drop from (bytes_of other.now)) }
         ensures err { OnErr result (self.new ≡ self.old) }
     {
         let mut added = spans_from(self.alloc, &other.spans, from)?;
@@ -169,7 +171,7 @@ fn spans_from(alloc: Global, spans: &[Span], from: u64) -> Result<Vec<Span>, All
     Ok(made)
 }
 
-// The same spans.
+// The spans of a copy.
 fn copies_of(alloc: Global, spans: &[Span]) -> Result<Vec<Span>, AllocError>
     ensures { IfOk result (λ made. made.items ≡ spans.now) }
 {

@@ -1,4 +1,4 @@
-use Rattle.std.proofs.Common.{◌≡◌, ◌+◌, ◌-◌, ◌∷◌, [], length, ap, ◌∙◌, arith}
+use Rattle.std.proofs.Common.{◌≡◌, ◌+◌, ◌-◌, ◌∷◌, [], ◌++◌, length, ap, ap₂, ◌∙◌, arith}
 use Rattle.std.proofs.lemmas.List.{append-nil, length-append}
 use Rattle.gcs_chunks.specs.Content.{bytes_of, bytes_of_piece, part_bytes, parts_bytes}
 use Rattle.gcs_chunks.proofs.Words.{part_size, parts_bytes-append}
@@ -18,3 +18,13 @@ invariant_of-self-then-from-to c =
     ∙ ap (λ l. length (parts_bytes before) + length l) (append-nil (part_bytes span)) in
     let mine : length (parts_bytes before) ≡ length (bytes_of c.args.self.now) = ap (λ w. length (bytes_of w)) c.self.view_is in
     (omega (arith, added, whole, c.self.invariant.0), omega (arith, mine, c.self.invariant.0, c.requires.size))
+
+-- the bytes of the new span come behind those that were there
+pub returns-in_ok-push-clause-bytes : goal.returns-in_ok-push-clause-bytes
+unfolding bytes_of bytes_of_piece
+returns-in_ok-push-clause-bytes c =
+    let before = c.self.inside.spans.items in
+    let span = c.in_ok-new.field-0 in
+    ap parts_bytes c.in_ok-push.ensures.items
+    ∙ parts_bytes-append before (span ∷ [])
+    ∙ ap₂ (λ a b. a ++ b) (ap bytes_of c.self.view_is) (append-nil (part_bytes span) ∙ ap part_bytes c.in_ok-new.ensures)

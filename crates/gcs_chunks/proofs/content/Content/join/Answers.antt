@@ -1,4 +1,4 @@
-use Rattle.std.proofs.Common.{◌≡◌, ◌+◌, ◌-◌, ◌++◌, ◌∙◌, length, ap, arith}
+use Rattle.std.proofs.Common.{◌≡◌, ◌+◌, ◌-◌, ◌++◌, ◌∙◌, drop, length, ap, ap₂, arith}
 use Rattle.std.specs.Prelude.{if◌then◌else◌}
 use Rattle.std.specs.Result.{is_ok}
 use Rattle.std.proofs.lemmas.List.{length-append, length-drop}
@@ -22,3 +22,18 @@ invariant_of-self-2 c =
     let mine : length (parts_bytes c.self.inside.spans.items) ≡ length (bytes_of c.args.self.now) = ap (λ w. length (bytes_of w)) c.self.view_is in
     let theirs : length (parts_bytes c.other.inside.spans.items) ≡ length (bytes_of c.args.other.now) = ap (λ w. length (bytes_of w)) c.other.view_is in
     (omega (arith, whole, rest, c.self.invariant.0, c.other.invariant.0), omega (arith, mine, theirs, c.self.invariant.0, c.other.invariant.0, c.requires.size, c.requires.from))
+
+-- the bytes of the rest come behind those that were there
+pub returns-clause-bytes : goal.returns-clause-bytes
+unfolding bytes_of
+returns-clause-bytes c =
+    let mine = c.self.inside.spans.items in
+    let theirs = c.other.inside.spans.items in
+    let added = c.in_ok-added.added.items in
+    let both : c.append.new.self.items ≡ mine ++ added =
+    c.append.ensures.items ∙ ap (λ r. if is_ok r then mine ++ added else mine) c.in_ok-append.was in
+    let rest : parts_bytes added ≡ drop c.args.from (parts_bytes theirs) =
+    ap parts_bytes (c.in_ok-added.ensures ∙ ap (rest_parts c.args.from) c.deref.ensures.value) ∙ bytes_of-parts theirs c.args.from in
+    ap parts_bytes both
+    ∙ parts_bytes-append mine added
+    ∙ ap₂ (λ a b. a ++ b) (ap bytes_of c.self.view_is) (rest ∙ ap (drop c.args.from) (ap bytes_of c.other.view_is))
