@@ -63,7 +63,7 @@ next_bytes-inside (q ∷ ps) zero at p h e l =
     ap length (filled_or-filled (drop at q.items) (next_bytes ps 0) (omega (arith, rest, l))) ∙ rest
 next_bytes-inside (q ∷ ps) (suc i) at p h e l = next_bytes-inside ps i at p (omega arith) e l
 
--- n bytes of the piece from the place on are no longer left
+-- what is left at a place is n bytes of the piece there, and then what is left behind them
 pub left-given : (ps : List (Vec ℕ)) (i at n : ℕ) (p : Vec ℕ) → i < length ps → p ≡ get_or ps i p → at + n ≤ length p.items → left ps i at ≡ slice_range p.items at (at + n) ++ left ps i (at + n)
 left-given [] i at n p h e l = absurd (omega arith)
 left-given (q ∷ ps) zero at n p h e l =

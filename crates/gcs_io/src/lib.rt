@@ -9,8 +9,6 @@ mod clock;
 mod failing;
 mod sink;
 mod source;
-#[cfg(test)]
-mod tests;
 
 pub use clock::{Clock, ListClock, SystemClock};
 pub use sink::{MemSink, Sink, StdSink};
