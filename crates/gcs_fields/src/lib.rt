@@ -7,8 +7,6 @@ mod mask;
 mod read;
 mod scan;
 mod select;
-#[cfg(test)]
-mod tests;
 
 pub use laws::law_one_mask;
 pub use mask::{Item, Mask, Name};

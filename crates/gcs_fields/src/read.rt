@@ -1,6 +1,5 @@
 //! The text of a mask, read byte by byte.
-ghost use Rattle.std.specs.Prelude.{◌≡◌, ◌≢◌, ℕ, ◌+◌, ◌<◌, ◌≤◌, ◌++◌, List, [], ◌∷◌, length, IfOk, IfErr, OnOk, Err, IsTrue, ◌↔◌};
-ghost use Rattle.std.specs.Prelude.{Ok, true};
+ghost use Rattle.std.specs.Prelude.{◌≡◌, ◌≢◌, ℕ, ◌+◌, ◌<◌, ◌≤◌, ◌++◌, List, [], ◌∷◌, length, IfOk, IfErr, OnOk, Ok, Err, IsTrue, ◌↔◌, true};
 ghost use Rattle.gcs_fields.specs.declared.scan.Place.TheVariants.{Start, Closed};
 ghost use Rattle.gcs_fields.specs.declared.scan.Sign.TheVariants as sign;
 ghost use Rattle.gcs_fields.specs.Tree.{is_name_byte, IsMask, print};
@@ -265,12 +264,11 @@ impl From<AllocError> for MaskFault {
     }
 }
 
-/// The mask that has this text: `item *("," item)`, an item being `path [ "(" mask ")" ]`, a path
-/// `name *("/" name)`, and a name `*` or one or more letters, digits, `_` and `-`. At most 4,096
-/// bytes and 32 levels, where each name and each bracket on the way to a name is one.
+/// The mask that has this text: `item *("," item)`, an item being `path [ "(" mask ")" ]`, a path `name *("/" name)`, and a name
+/// `*` or one or more letters, digits, `_` and `-`. At most 4,096 bytes and 32 levels, where each name and each bracket on the
+/// way to a name is one.
 ///
-/// Source: Google's Cloud Storage, "JSON API: partial response", whose `fields` parameter it is;
-/// the limits, and the place that a refusal names, are our own.
+/// Source: Google's Cloud Storage, "JSON API: partial response"; the limits, and the place that a refusal names, are our own.
 pub fn read_mask(alloc: Global, text: &[u8]) -> Result<Mask, MaskFault>
     ensures ok { IfOk result (λ m. IsMask (mask_of m) × (print (mask_of m) ≡ text.now)) }
     ensures bad { IfErr result (IsFault text.now) }

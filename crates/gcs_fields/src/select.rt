@@ -41,6 +41,7 @@ pub fn apply(alloc: Global, mask: &Mask, value: Value) -> Result<Value, AllocErr
     Ok(kept.unwrap_or(Value::Null))
 }
 
+// Whether a name of a path is that of a member with this key.
 fn meets(name: &Name, key: &[u8]) -> bool
     ensures { result ≡ meets key.now (name_of name.now) }
 {
@@ -50,6 +51,7 @@ fn meets(name: &Name, key: &[u8]) -> bool
     }
 }
 
+// Adds the rests that whole items are.
 fn push_items<'a>(rests: &mut Vec<Rest<'a>>, items: &'a [Item]) -> Result<(), AllocError>
     ensures { OnOk result (rests_of rests.new.items
         ≡ together (rests_of rests.old.items) (mask_of items.entry.now)) }
@@ -96,6 +98,7 @@ fn follow<'a>(alloc: Global, mask: &[Rest<'a>], key: &[u8]) -> Result<Followed<'
     }
 }
 
+// What the mask leaves of a value; `None` where that is nothing.
 #[cycle(select)]
 fn select(alloc: Global, mask: &[Rest<'_>], value: &Value) -> Result<Option<Value>, AllocError>
     ensures { IfOk result (λ v. option_map view v ≡ select (rests_of mask.now) (view value.now)) }
@@ -107,6 +110,7 @@ fn select(alloc: Global, mask: &[Rest<'_>], value: &Value) -> Result<Option<Valu
     }
 }
 
+// What the mask leaves of the elements of a list.
 #[cycle(select)]
 fn select_items(
     alloc: Global,
@@ -125,6 +129,7 @@ fn select_items(
     Ok(kept)
 }
 
+// What the mask leaves of the member with this key.
 #[cycle(select)]
 fn select_member(
     alloc: Global,
@@ -142,6 +147,7 @@ fn select_member(
     }
 }
 
+// What the mask leaves of the members of an object.
 #[cycle(select)]
 fn select_members(
     alloc: Global,

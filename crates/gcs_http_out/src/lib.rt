@@ -5,8 +5,6 @@
 mod constants;
 mod head;
 mod reply;
-#[cfg(test)]
-mod tests;
 
 pub use constants::fixed;
 pub use head::{Ending, ReplyHead, head_bytes};

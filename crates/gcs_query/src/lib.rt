@@ -2,8 +2,6 @@
 #![tactic(auto)]
 
 mod reading;
-#[cfg(test)]
-mod tests;
 mod values;
 
 pub use reading::{Query, QueryFault, decoded, read_query};

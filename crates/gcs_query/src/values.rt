@@ -4,6 +4,7 @@ ghost use Rattle.std.specs.Str.Parse.{digits_value, IsNumeral};
 ghost use Rattle.gcs_query.specs.Values.{value_of, greatest, IsNumber, IsTrueText, IsFalseText};
 
 use crate::reading::Query;
+use gcs_decimal::{MOST_DIGITS, read_decimal};
 
 /// The value of a key is not of the kind that was asked for.
 #[derive(Clone, Copy, Debug)]
@@ -79,19 +80,8 @@ fn number_of(text: &[u8]) -> Option<u64>
     ensures some { IfSome result (λ n. IsNumber text.now × (n ≡ digits_value 10 text.now)) }
     ensures none { IfNone result (¬ IsNumber text.now) }
 {
-    if text.is_empty() || text.len() > 19 {
-        return None;
-    }
-    let mut number = 0u64;
-    for byte in text {
-        if !byte.is_ascii_digit() {
-            return None;
-        }
-        number = number * 10 + u64::from(*byte - b'0');
-    }
-    if number > GREATEST {
-        None
-    } else {
-        Some(number)
+    match read_decimal(text, MOST_DIGITS) {
+        Some(number) if number <= GREATEST => Some(number),
+        _ => None,
     }
 }

@@ -1,4 +1,4 @@
-// What holds of texts and moments together.
+//! What holds of texts and moments together.
 ghost use Rattle.std.specs.Prelude.{◌≡◌, ◌↔◌, ◌*◌, ◌/◌, min, ℕ, List, Some};
 ghost use Rattle.gcs_time.specs.Time.{IsTextOf, IsTimeOf, last_moment, time_of, time_text_of};
 

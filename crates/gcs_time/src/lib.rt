@@ -1,10 +1,10 @@
 //! Times as texts (RFC 3339, 5.6): the text of a moment, and the moment of a text. A moment is microseconds since 1970.
 #![tactic(auto)]
 
+mod digit_pairs;
+mod fraction;
 mod laws;
 mod reading;
-#[cfg(test)]
-mod tests;
 mod writing;
 
 pub use laws::{law_round_trip, law_time_of};

@@ -1,9 +1,10 @@
-// The moment of a text, read by the places of its parts.
-ghost use Rattle.std.specs.Prelude.{◌≡◌, ◌+◌, ◌-◌, ◌*◌, ◌^◌, ◌<◌, ◌≤◌, ◌==◌, ℕ, IsTrue, slice_index, take_while, length, IfOk, IfErr, IfSome, IfNone, pos, true};
-ghost use Rattle.std.specs.Str.Parse.{digits_value, AllDigits};
+//! The moment of a text, read by the places of its parts.
+ghost use Rattle.std.specs.Prelude.{◌≡◌, ◌+◌, ◌-◌, ◌*◌, ◌^◌, ◌<◌, ◌≤◌, ℕ, length, IfOk, IfErr, IfSome, IfNone, pos, true};
 ghost use Rattle.jiff_core.specs.Calendar.{IsCivilDate, day_count};
-ghost use Rattle.gcs_time.specs.Time.{is_digit_byte, has_two, two_at, has_date, has_clock, has_mark, has_offset, offset_of, zone_of, micros_of, IsTimeOf, IsCivilText, year_of, Shows, civil_seconds, fraction_of, has_fraction, after_fraction, last_moment};
+ghost use Rattle.gcs_time.specs.Time.{has_two, two_at, has_date, has_clock, has_mark, has_offset, offset_of, zone_of, IsTimeOf, IsCivilText, year_of, Shows, civil_seconds, last_moment};
 
+use crate::digit_pairs::{has_two, two_at};
+use crate::fraction::{after_fraction, fraction_of, has_fraction, micros_of};
 use crate::writing::LAST_MOMENT;
 use jiff_core::civil::Date;
 
@@ -45,30 +46,6 @@ pub fn read_time(text: &[u8]) -> Result<u64, BadTime>
         Some(moment) => Ok(moment),
         None => Err(BadTime),
     }
-}
-
-fn is_digit(byte: u8) -> bool
-    ensures { result ≡ is_digit_byte byte }
-{
-    byte.is_ascii_digit()
-}
-
-// Whether two digits stand at that place.
-fn has_two(text: &[u8], at: usize) -> bool
-    requires { at + 1 < length text.now }
-    ensures { result ≡ has_two text.now at }
-{
-    is_digit(text[at]) && is_digit(text[at + 1])
-}
-
-// The number of the two digits at that place.
-fn two_at(text: &[u8], at: usize) -> u64
-    requires place { at + 1 < length text.now }
-    requires digits { has_two text.now at ≡ true }
-    ensures value { result ≡ two_at text.now at }
-    ensures bound { result ≤ 99 }
-{
-    u64::from(text[at] - b'0') * 10 + u64::from(text[at + 1] - b'0')
 }
 
 // Whether `YYYY-MM-DD` begins the text, each letter a digit.
@@ -195,63 +172,6 @@ fn has_mark(text: &[u8]) -> bool
     text[10] == b'T' || text[10] == b't'
 }
 
-// The digits behind a point, where one comes first.
-fn fraction_of(tail: &[u8]) -> &[u8]
-    ensures value { result.now ≡ fraction_of tail.now }
-    ensures digits { AllDigits 10 result.now }
-{
-    if begins_with_point(tail) {
-        leading_digits(&tail[1..])
-    } else {
-        &[]
-    }
-}
-
-fn begins_with_point(tail: &[u8]) -> bool
-    ensures value { result ≡ (slice_index tail.now 0 == 46) }
-    ensures room { IsTrue result → 1 ≤ length tail.now }
-{
-    !tail.is_empty() && tail[0] == b'.'
-}
-
-fn leading_digits(text: &[u8]) -> &[u8]
-    ensures value { result.now ≡ take_while is_digit_byte text.now }
-    ensures digits { AllDigits 10 result.now }
-{
-    &text[..count_digits(text)]
-}
-
-// How many digits the text begins with.
-fn count_digits(text: &[u8]) -> usize
-    ensures { result ≡ length (take_while is_digit_byte text.now) }
-{
-    text.iter().take_while(|byte| is_digit(**byte)).count()
-}
-
-// Whether a point is followed by 1 to 9 digits.
-fn has_fraction(tail: &[u8], digits: &[u8]) -> bool
-    requires { digits.now ≡ fraction_of tail.now }
-    ensures { result ≡ has_fraction tail.now }
-{
-    if begins_with_point(tail) {
-        !digits.is_empty() && digits.len() <= 9
-    } else {
-        true
-    }
-}
-
-// What stands behind the fraction.
-fn after_fraction<'a>(tail: &'a [u8], digits: &[u8]) -> &'a [u8]
-    requires { digits.now ≡ fraction_of tail.now }
-    ensures { result.now ≡ after_fraction tail.now }
-{
-    if begins_with_point(tail) {
-        &tail[1 + digits.len()..]
-    } else {
-        tail
-    }
-}
-
 // The zone that the text names.
 fn zone_of(text: &[u8]) -> Option<Zone>
     ensures { result ≡ zone_of text.now }
@@ -282,44 +202,4 @@ fn moment_at(zone: Zone, civil: u64) -> Option<u64>
         return None;
     }
     Some(moment)
-}
-
-// The microseconds of a fraction's digits.
-fn micros_of(digits: &[u8]) -> u64
-    requires digits { AllDigits 10 digits.now }
-    ensures value { result ≡ micros_of digits.now }
-    ensures bound { result ≤ 1_000_000_000_000 }
-{
-    let count = digits.len();
-    let kept = if count > 6 { &digits[..6] } else { digits };
-    number_of(kept) * place_value(count)
-}
-
-// What the last of so many digits of a fraction is worth, in microseconds.
-fn place_value(count: usize) -> u64
-    ensures value { result ≡ 10 ^ (6 - count) }
-    ensures bound { result ≤ 1_000_000 }
-{
-    match count {
-        0 => 1_000_000,
-        1 => 100_000,
-        2 => 10_000,
-        3 => 1_000,
-        4 => 100,
-        5 => 10,
-        _ => 1,
-    }
-}
-
-fn number_of(digits: &[u8]) -> u64
-    requires few { length digits.now ≤ 6 }
-    requires digits { AllDigits 10 digits.now }
-    ensures value { result ≡ digits_value 10 digits.now }
-    ensures bound { result < 1_000_000 }
-{
-    let mut number = 0u64;
-    for byte in digits {
-        number = number * 10 + u64::from(*byte - b'0');
-    }
-    number
 }

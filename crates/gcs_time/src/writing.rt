@@ -1,4 +1,4 @@
-// The text of a moment, by the civil date of its day and the time of that day.
+//! The text of a moment, by the civil date of its day and the time of that day.
 ghost use Rattle.std.specs.Prelude.{◌≡◌, ◌+◌, ◌%◌, ◌≤◌, pos, unsigned_abs};
 ghost use Rattle.jiff_core.specs.Date.{epoch_day};
 ghost use Rattle.gcs_time.specs.Time.{IsTextOf, time_text_of};
