@@ -157,7 +157,7 @@ part_fits f state.Chunked messages part current s keep = (
   omega (arith, ap length s.spelled, length-append s.front s.text, s.good.fits, place_fits f.body f.body.place s.text s.it.content s.body, f.most),
   omega (arith, s.left, s.some),
 )
-part_fits f state.Closed messages part current s keep = absurd (last_keeps messages s.before s.last s.are s.closes keep)
+part_fits f (state.Closed bare) messages part current s keep = absurd (last_keeps messages s.before s.last s.are s.closes keep)
 
 -- while all messages keep the connection, the bytes are bounded
 pub bytes_bounded : (f : Framer) (bytes : List ℕ) (messages : List Message) (current : Option Current) → Stands f bytes messages current → AllKeep messages

@@ -1,8 +1,6 @@
 -- What a byte makes of a framer that stands.
-use Rattle.std.proofs.Common.{◌≡◌, ℕ, ◌+◌, ◌-◌, ◌<◌, ◌≤◌, Bool, true, false, List, [], ◌∷◌, ◌++◌, length, refl, ap, sym, ◌∙◌, subst, arith, append-nil, zero-add, inl, inr, Option, Some, None, length-append}
+use Rattle.std.proofs.Common.{◌≡◌, ℕ, ◌+◌, ◌-◌, ◌≤◌, Bool, true, List, [], ◌∷◌, ◌++◌, length, refl, ap, sym, ◌∙◌, subst, arith, append-nil, zero-add, inl, inr, Option, Some, None, length-append}
 use Rattle.std.specs.Prelude.{◌==◌, ◌&&◌, not}
-use Rattle.std.proofs.lemmas.Bool.{false≢true}
-use Rattle.std.proofs.lemmas.Bool.Decides.{nat_tests}
 use Rattle.gcs_http_in.specs.declared.limits.Limits.{Limits}
 use Rattle.gcs_http_in.specs.declared.fault.FrameFault.{FrameFault}
 use Rattle.gcs_http_in.specs.declared.fields.Framing.{Framing}
@@ -11,14 +9,13 @@ use Rattle.gcs_http_in.specs.declared.framer.Framer.{Framer}
 use Rattle.gcs_http_in.specs.declared.state.State.{State}
 use Rattle.gcs_http_in.specs.declared.state.State.TheVariants as state
 use Rattle.gcs_http_in.specs.Head.{Head}
-use Rattle.gcs_http_in.specs.Message.{Message, whole, refused, stays, IsGoodHeadText, IsRefusedHead, IsSpelling, IsSpelled, AllKeep, keeps_of}
+use Rattle.gcs_http_in.specs.Message.{Message, refused, stays, IsGoodHeadText, IsRefusedHead, IsSpelling, IsSpelled, AllKeep}
 use Rattle.gcs_http_in.specs.Reader.{HeadStands, HoldsHead}
 use Rattle.gcs_http_in.specs.declared.reader.HeadReader.{HeadReader}
 use Rattle.gcs_http_in.specs.Chunks.{IsChunkedBody, IsBadBody}
 use Rattle.gcs_http_in.specs.ChunkState.{BodyStands}
 use Rattle.gcs_http_in.specs.Progress.{Current}
 use Rattle.gcs_http_in.specs.Stands.{limits_of, InHead, InLength, InChunks, StandsIn, Stands, IsReady}
-use Rattle.gcs_http_in.proofs.HeadLines.{All_push}
 use Rattle.gcs_http_in.proofs.Messages.{spelled_push, split_more, is_last}
 
 -- what stands in a head
@@ -35,7 +32,7 @@ same_left : (f g : Framer) (k : ℕ) → limits_of g ≡ limits_of f → g.left 
 same_left f g k lim left e = ap (λ (n : ℕ). k + n) left ∙ e ∙ ap (λ (l : Limits). l.requests) (sym lim)
 
 -- a refused message
-pub closes_by : (f g : Framer) (bytes : List ℕ) (messages : List Message) (e : FrameFault) (front part : List ℕ) → g.state ≡ state.Closed → limits_of g ≡ limits_of f
+pub closes_by : (f g : Framer) (bytes : List ℕ) (messages : List Message) (e : FrameFault) (front part : List ℕ) → g.state ≡ state.Closed true → limits_of g ≡ limits_of f
     → bytes ≡ front ++ part → IsSpelled (limits_of f) 1 messages front → AllKeep messages → IsSpelling (limits_of g) (1 + length messages) (refused e) part
     → Stands g bytes (messages ++ refused e ∷ []) None
 closes_by f g bytes messages e front part eg lim split spelled keep it = record {
@@ -49,12 +46,13 @@ closes_by f g bytes messages e front part eg lim split spelled keep it = record 
     last = refused e;
     are = refl;
     closes = refl;
+    bare_is = refl;
   };
 }
 
 -- a head that is refused
 pub head_refused : (f g : Framer) (bytes : List ℕ) (messages : List Message) (current : Option Current) (byte : ℕ) (e : FrameFault)
-    → f.state ≡ state.Head → g.state ≡ state.Closed → limits_of g ≡ limits_of f → Stands f bytes messages current
+    → f.state ≡ state.Head → g.state ≡ state.Closed true → limits_of g ≡ limits_of f → Stands f bytes messages current
     → ((text : List ℕ) → HeadStands f.head text → IsRefusedHead (limits_of g) (text ++ byte ∷ []) e)
     → Stands g (bytes ++ byte ∷ []) (messages ++ refused e ∷ []) None
 head_refused f g bytes messages current byte e ef eg lim s refuses =
@@ -112,51 +110,6 @@ head_before_chunks f g bytes messages current byte head ef eg lim left s good ho
         holds = holds;
         keeps = keeps ∙ ap (λ (n : ℕ). stays head && not (n == 1)) (sym left);
         body = body;
-      };
-    }
-
--- the message ends, and closes the connection
-pub ends_closed : (f g : Framer) (bytes : List ℕ) (messages : List Message) (it : Current) → f.keeps ≡ false → g.state ≡ state.Closed → limits_of g ≡ limits_of f
-    → IsReady f bytes messages it → Stands g bytes (messages ++ whole it.head it.content f.keeps ∷ []) None
-ends_closed f g bytes messages it closes eg lim r =
-    let m = whole it.head it.content f.keeps in record {
-      front = r.front ++ r.part;
-      part = [];
-      split = r.split ∙ sym (append-nil (r.front ++ r.part));
-      spelled = subst (λ (l : Limits). IsSpelled l 1 (messages ++ m ∷ []) (r.front ++ r.part)) (sym lim)
-          (spelled_push (limits_of f) 1 messages m r.front r.part r.spelled r.keep r.whole_is);
-      inside = subst (λ (st : State). StandsIn g st (messages ++ m ∷ []) [] None) (sym eg) record {
-        none = refl;
-        before = messages;
-        last = m;
-        are = refl;
-        closes = closes;
-      };
-    }
-
--- where a message keeps the connection another may come
-more_may_come : (s : Bool) (k left most : ℕ) → k + left ≡ most → 0 < left → (s && not (1 + k == most)) ≡ true → 1 < left
-more_may_come true k left most e some kept = grind (arith, nat_tests)
-more_may_come false k left most e some kept = absurd (false≢true kept)
-
--- the message ends, and another may come
-pub ends_kept : (f g : Framer) (bytes : List ℕ) (messages : List Message) (it : Current) → f.keeps ≡ true → g.state ≡ state.Head → limits_of g ≡ limits_of f
-    → g.left ≡ f.left - 1 → HeadStands g.head [] → IsReady f bytes messages it → Stands g bytes (messages ++ whole it.head it.content f.keeps ∷ []) None
-ends_kept f g bytes messages it kept eg lim left head r =
-    let m = whole it.head it.content f.keeps in
-    let more : 1 < f.left = more_may_come (stays it.head) (length messages) f.left (limits_of f).requests r.left r.some (sym r.whole_is.keeps_is ∙ kept) in
-    record {
-      front = r.front ++ r.part;
-      part = [];
-      split = r.split ∙ sym (append-nil (r.front ++ r.part));
-      spelled = subst (λ (l : Limits). IsSpelled l 1 (messages ++ m ∷ []) (r.front ++ r.part)) (sym lim)
-          (spelled_push (limits_of f) 1 messages m r.front r.part r.spelled r.keep r.whole_is);
-      inside = subst (λ (st : State). StandsIn g st (messages ++ m ∷ []) [] None) (sym eg) record {
-        none = refl;
-        keep = All_push (λ (n : Message). keeps_of n ≡ true) messages m r.keep kept;
-        left = rw length-append (omega (arith, r.left, ap (λ (l : Limits). l.requests) lim));
-        some = omega arith;
-        head = head;
       };
     }
 
@@ -235,7 +188,7 @@ length_step f g bytes x messages current count ef le eg head left keeps s =
     }
 
 -- the last message is the one after which none may come
-keeps_by_number : (s : Bool) (k left most : ℕ) → k + left ≡ most → (s && not (left == 1)) ≡ (s && not (1 + k == most))
+pub keeps_by_number : (s : Bool) (k left most : ℕ) → k + left ≡ most → (s && not (left == 1)) ≡ (s && not (1 + k == most))
 keeps_by_number s k left most e = ap (λ (b : Bool). s && not b) (sym (is_last k left most e))
 
 -- the last byte of a chunked body
@@ -290,7 +243,7 @@ length_ready f bytes messages current ef s =
 
 -- a chunked body is refused
 pub chunks_refused : (f g : Framer) (bytes x : List ℕ) (messages : List Message) (current : Option Current) (e : FrameFault) → (ef : f.state ≡ state.Chunked)
-    → g.state ≡ state.Closed → g.head ≡ f.head → g.body.most ≡ (limits_of g).body → (s : Stands f bytes messages current)
+    → g.state ≡ state.Closed true → g.head ≡ f.head → g.body.most ≡ (limits_of g).body → (s : Stands f bytes messages current)
     → IsBadBody g.body.most ((at_chunks f bytes messages current ef s).text ++ x) e
     → Stands g (bytes ++ x) (messages ++ refused e ∷ []) None
 chunks_refused f g bytes x messages current e ef eg head most s bad =
@@ -313,33 +266,3 @@ pub chunks_more : (f g : Framer) (bytes x : List ℕ) (messages : List Message) 
 chunks_more f g bytes x messages current ef eg head left keeps s body =
     subst (λ (o : Option Current). Stands g (bytes ++ x) messages o) (sym (at_chunks f bytes messages current ef s).is)
     (chunks_step f g bytes x messages current (at_chunks f bytes messages current ef s).it.content ef eg head left keeps s body)
-
--- what is current is one
-same_some : (a b : Current) → Some a ≡ Some b → a ≡ b
-same_some a b e = cc
-
--- in a message the reader holds its head, by the state
-holds_at : (f : Framer) (st : State) (messages : List Message) (part : List ℕ) (it : Current) → StandsIn f st messages part (Some it) → HoldsHead f.head it.head
-holds_at f state.Head messages part it s = absurd (let e : Some it ≡ None = s.none in cc)
-holds_at f (state.Length count) messages part it s = subst (λ (c : Current). HoldsHead f.head c.head) (sym (same_some it s.it s.is)) s.holds
-holds_at f state.Chunked messages part it s = subst (λ (c : Current). HoldsHead f.head c.head) (sym (same_some it s.it s.is)) s.holds
-holds_at f state.Closed messages part it s = absurd (let e : Some it ≡ None = s.none in cc)
-
--- the head of the current message
-pub holds_in : (f : Framer) (bytes : List ℕ) (messages : List Message) (it : Current) → Stands f bytes messages (Some it) → HoldsHead f.head it.head
-holds_in f bytes messages it s = holds_at f f.state messages s.part it s.inside
-
--- in a message it is known whether it keeps the connection, by the state
-keeps_at : (f : Framer) (st : State) (messages : List Message) (part : List ℕ) (it : Current) → StandsIn f st messages part (Some it)
-    → f.keeps ≡ (stays it.head && not (1 + length messages == (limits_of f).requests))
-keeps_at f state.Head messages part it s = absurd (let e : Some it ≡ None = s.none in cc)
-keeps_at f (state.Length count) messages part it s = subst (λ (c : Current). f.keeps ≡ (stays c.head && not (1 + length messages == (limits_of f).requests))) (sym (same_some it s.it s.is))
-    (s.keeps ∙ keeps_by_number (stays s.it.head) (length messages) f.left (limits_of f).requests s.left)
-keeps_at f state.Chunked messages part it s = subst (λ (c : Current). f.keeps ≡ (stays c.head && not (1 + length messages == (limits_of f).requests))) (sym (same_some it s.it s.is))
-    (s.keeps ∙ keeps_by_number (stays s.it.head) (length messages) f.left (limits_of f).requests s.left)
-keeps_at f state.Closed messages part it s = absurd (let e : Some it ≡ None = s.none in cc)
-
--- in a message it is known whether it keeps the connection
-pub keeps_in : (f : Framer) (bytes : List ℕ) (messages : List Message) (it : Current) → Stands f bytes messages (Some it)
-    → f.keeps ≡ (stays it.head && not (1 + length messages == (limits_of f).requests))
-keeps_in f bytes messages it s = keeps_at f f.state messages s.part it s.inside

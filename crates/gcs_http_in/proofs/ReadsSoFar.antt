@@ -1,5 +1,5 @@
 -- A framer tells at once what has come.
-use Rattle.std.proofs.Common.{◌≡◌, ℕ, ◌+◌, List, [], ◌∷◌, ◌++◌, length, refl, ap, sym, ◌∙◌, subst, arith, append_assoc, append-nil, inl, inr, Option, Some, None}
+use Rattle.std.proofs.Common.{Bool, ◌≡◌, ℕ, ◌+◌, List, [], ◌∷◌, ◌++◌, length, refl, ap, sym, ◌∙◌, subst, arith, append_assoc, append-nil, inl, inr, Option, Some, None}
 use Rattle.httparse.specs.Grammar.{print_chunk_line}
 use Rattle.gcs_http_in.specs.declared.fields.Framing.TheVariants as framing
 use Rattle.gcs_http_in.specs.declared.chunked.ChunkedBody.{ChunkedBody}
@@ -100,11 +100,11 @@ under_way f state.Chunked messages part (Some it) e s =
         body_is = subst (λ (m : ℕ). OpensChunks m s.text s.it.content) f.most (body_so_far f.body f.body.place s.text s.it.content s.body);
       },
     )
-under_way f state.Closed messages part None e s = λ keep. absurd (open_closed f part messages s keep)
+under_way f (state.Closed bare) messages part None e s = λ keep. absurd (open_closed f bare part messages s keep)
   where
-    open_closed : (f : Framer) (part : List ℕ) (messages : List Message) → StandsIn f state.Closed messages part None → AllKeep messages → ⊥
-    open_closed f part messages s keep = last_keeps messages s.before s.last s.are s.closes keep
-under_way f state.Closed messages part (Some it) e s = absurd (let n : Some it ≡ None = s.none in cc)
+    open_closed : (f : Framer) (bare : Bool) (part : List ℕ) (messages : List Message) → StandsIn f (state.Closed bare) messages part None → AllKeep messages → ⊥
+    open_closed f bare part messages s keep = last_keeps messages s.before s.last s.are s.closes keep
+under_way f (state.Closed bare) messages part (Some it) e s = absurd (let n : Some it ≡ None = s.none in cc)
 
 -- a framer stands for what was read so far
 pub reads_so_far : (f : Framer) (bytes : List ℕ) (messages : List Message) (current : Option Current) → Stands f bytes messages current → ReadsSoFar (limits_of f) bytes messages current

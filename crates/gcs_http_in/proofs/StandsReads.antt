@@ -20,7 +20,7 @@ use Rattle.gcs_http_in.specs.Chunks.{print_chunks, IsBadBody}
 use Rattle.gcs_http_in.specs.ChunkState.{StandsAt, InLine, InData, InTrailer}
 use Rattle.gcs_http_in.specs.Message.{Message, whole, refused, stays, IsGoodHeadText, AllKeep, keeps_of, BeginsNone, Spells}
 use Rattle.gcs_http_in.specs.Progress.{Current}
-use Rattle.gcs_http_in.specs.Stands.{Stands, StandsIn, IsDue, limits_of}
+use Rattle.gcs_http_in.specs.Stands.{InClosed, Stands, StandsIn, IsDue, limits_of}
 use Rattle.gcs_http_in.proofs.RequestLines.{line_append}
 use Rattle.gcs_http_in.proofs.ChunkLines.{no_chunk_line, bad_trailer}
 use Rattle.std.specs.List.{list_all}
@@ -154,7 +154,7 @@ open_place f state.Chunked n bytes messages part current e s due keep =
     let b = body_open f.body f.body.place s.text s.it.content s.body in
     subst (λ (t : List ℕ). BeginsNone (limits_of f) n t) (sym s.spelled)
     (cut_short (limits_of f) n s.front s.text b.0 s.it.head s.good (subst (λ (k : ℕ). IsBadBody k (s.text ++ b.0) fault.BadChunk) f.most b.2) b.1)
-open_place f state.Closed n bytes messages part current e s due keep =
+open_place f (state.Closed bare) n bytes messages part current e s due keep =
     absurd (last_keeps messages s.before s.last s.are s.closes keep)
 
 -- the reading of the bytes, where no end waits to be told
@@ -186,26 +186,30 @@ reads_due f bytes messages current s e =
       },
     )
 
--- the bytes since the last end
-pub bare_between : (f : Framer) (bytes : List ℕ) (messages : List Message) (rest : List ℕ) (b : Bool) → f.state ≡ state.Head → Stands f bytes messages None
-    → AllKeep messages → Spells (limits_of f) bytes messages rest → ((text : List ℕ) → HeadStands f.head text → b ≡ list_all is_end_byte text) → b ≡ list_all is_end_byte rest
+-- the bytes since the last end are those that the reading leaves
+since_end : (f : Framer) (bytes : List ℕ) (messages : List Message) (rest : List ℕ) (s : Stands f bytes messages None) → (IsDue f.state → ⊥)
+    → Spells (limits_of f) bytes messages rest → s.part ≡ rest
 unfolding reads
-bare_between f bytes messages rest b e s keep p is =
+since_end f bytes messages rest s due p =
+    let r = reads f bytes messages None s due in
+    (one_reading (limits_of f) bytes messages messages r.0 rest r.1 p).1
+
+-- whether only CR and LF came since the last end, in a head
+pub bare_in_head : (f : Framer) (bytes : List ℕ) (messages : List Message) (rest : List ℕ) (b : Bool) → f.state ≡ state.Head → Stands f bytes messages None
+    → Spells (limits_of f) bytes messages rest → ((text : List ℕ) → HeadStands f.head text → b ≡ list_all is_end_byte text) → b ≡ list_all is_end_byte rest
+bare_in_head f bytes messages rest b e s p is =
     let h = at_head f bytes messages None e s in
-    let r = reads f bytes messages None s (λ due. no_head f.state e due) in
-    let same = one_reading (limits_of f) bytes messages messages r.0 rest r.1 p in
-    is s.part h.head ∙ ap (list_all is_end_byte) same.1
+    is s.part h.head ∙ ap (list_all is_end_byte) (since_end f bytes messages rest s (λ due. no_head f.state e due) p)
   where
     no_head : (st : State) → st ≡ state.Head → IsDue st → ⊥
     no_head st a b = cc
 
--- with no current message, and all keeping, the framer is in a head, by the state
-none_at : (f : Framer) (st : State) (messages : List Message) (part : List ℕ) → StandsIn f st messages part None → AllKeep messages → (st ≡ state.Head → ⊥) → ⊥
-none_at f state.Head messages part s keep other = other refl
-none_at f (state.Length count) messages part s keep other = let e : None ≡ Some s.it = s.is in cc
-none_at f state.Chunked messages part s keep other = let e : None ≡ Some s.it = s.is in cc
-none_at f state.Closed messages part s keep other = last_keeps messages s.before s.last s.are s.closes keep
-
--- where no message is open and another may come, the framer is in a head
-pub in_head_between : (f : Framer) (bytes : List ℕ) (messages : List Message) → Stands f bytes messages None → AllKeep messages → (f.state ≡ state.Head → ⊥) → ⊥
-in_head_between f bytes messages s keep other = none_at f f.state messages s.part s.inside keep other
+-- and after a message that closes
+pub bare_in_closed : (f : Framer) (bytes : List ℕ) (messages : List Message) (rest : List ℕ) (b : Bool) → f.state ≡ state.Closed b → Stands f bytes messages None
+    → Spells (limits_of f) bytes messages rest → b ≡ list_all is_end_byte rest
+bare_in_closed f bytes messages rest b e s p =
+    let h : InClosed b messages s.part None = subst (λ (st : State). StandsIn f st messages s.part None) e s.inside in
+    h.bare_is ∙ ap (list_all is_end_byte) (since_end f bytes messages rest s (λ due. no_closed f.state b e due) p)
+  where
+    no_closed : (st : State) (b : Bool) → st ≡ state.Closed b → IsDue st → ⊥
+    no_closed st b x y = cc

@@ -1,9 +1,10 @@
 -- The fields of a head, and what they say of its body (RFC 9112, 6) and of the connection (9.3).
-use Rattle.std.specs.Prelude.{ℕ, Bool, false, ◌&&◌, ◌||◌, not, ◌==◌, nat_lt, nat_le, List, [], ◌∷◌, length, map, filter, codes, Option, Some, None, Result, Ok, Err, if◌then◌else◌}
+use Rattle.std.specs.Prelude.{ℕ, Bool, false, ◌&&◌, ◌||◌, not, ◌==◌, nat_lt, List, [], ◌∷◌, map, filter, codes, Option, Some, None, Result, Ok, Err, if◌then◌else◌}
 use Rattle.std.specs.List.{list_all}
-use Rattle.std.specs.Char.{is_ascii_digit, to_ascii_lowercase}
+use Rattle.std.specs.Char.{to_ascii_lowercase}
 use Rattle.std.specs.Str.{bytes_eq}
 use Rattle.std.specs.Str.Parse.{digits_value}
+use Rattle.gcs_decimal.specs.Decimal.{is_decimal}
 use Rattle.gcs_http_in.specs.declared.fault.FrameFault.{FrameFault}
 use Rattle.gcs_http_in.specs.declared.fault.FrameFault.TheVariants.{BadCoding, BothLengths, BadLength, BodyTooLong}
 use Rattle.gcs_http_in.specs.declared.fields.Coding.{Coding}
@@ -29,7 +30,7 @@ coding_of (v ∷ w ∷ values) = coding.Bad
 
 -- 1 to 18 decimal digits
 abbrev pub is_length : List ℕ → Bool
-is_length v = nat_lt 0 (length v) && (nat_le (length v) 18 && list_all is_ascii_digit v)
+is_length v = is_decimal 18 v
 
 -- a length that is this number
 abbrev pub is_same_length : ℕ → List ℕ → Bool

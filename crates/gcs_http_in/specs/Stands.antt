@@ -9,6 +9,8 @@ use Rattle.gcs_http_in.specs.declared.state.Step.TheVariants as step
 use Rattle.gcs_http_in.specs.declared.state.Taken.{Taken}
 use Rattle.gcs_http_in.specs.declared.state.Taken.TheVariants as taken
 use Rattle.gcs_http_in.specs.declared.limits.Limits.{Limits}
+use Rattle.std.specs.List.{list_all}
+use Rattle.gcs_http_in.specs.Lines.{is_end_byte}
 use Rattle.gcs_http_in.specs.Head.{Head}
 use Rattle.gcs_http_in.specs.Message.{Message, whole, refused, stays, IsGoodHeadText, IsWhole, IsSpelled, AllKeep, keeps_of}
 use Rattle.gcs_http_in.specs.Progress.{Current}
@@ -55,20 +57,21 @@ pub record InChunks (f : Framer) (messages : List Message) (part : List ℕ) (cu
   pub keeps : f.keeps ≡ (stays it.head && not (f.left == 1))
   pub body : BodyStands f.body text it.content
 
--- after a message that doesn't keep the connection
-pub record InClosed (messages : List Message) (current : Option Current) : Type 0 where
+-- after a message that doesn't keep the connection, where the bytes since may all be CR and LF
+pub record InClosed (bare : Bool) (messages : List Message) (part : List ℕ) (current : Option Current) : Type 0 where
   pub none : current ≡ None
   pub before : List Message
   pub last : Message
   pub are : messages ≡ before ++ last ∷ []
   pub closes : keeps_of last ≡ false
+  pub bare_is : bare ≡ list_all is_end_byte part
 
 -- what stands after the whole messages, by the state
 abbrev pub StandsIn : Framer → State → List Message → List ℕ → Option Current → Type 0
 StandsIn f state.Head messages part current = InHead f messages part current
 StandsIn f (state.Length count) messages part current = InLength f count messages part current
 StandsIn f state.Chunked messages part current = InChunks f messages part current
-StandsIn f state.Closed messages part current = InClosed messages current
+StandsIn f (state.Closed bare) messages part current = InClosed bare messages part current
 
 -- the bytes that the framer took spell these messages, and then the front of the current one
 pub record Stands (f : Framer) (bytes : List ℕ) (messages : List Message) (current : Option Current) : Type 0 where
@@ -101,7 +104,7 @@ abbrev pub IsAtByte : Framer → State → Type 0
 IsAtByte f state.Head = Unit {0}
 IsAtByte f (state.Length count) = ⊥
 IsAtByte f state.Chunked = left_of f.body.place ≡ 0
-IsAtByte f state.Closed = Unit {0}
+IsAtByte f (state.Closed bare) = Unit {0}
 
 -- the last byte of a body by length has been told, and its end hasn't
 abbrev pub IsDue : State → Type 0
@@ -112,7 +115,7 @@ abbrev pub content_left : Framer → State → ℕ
 content_left f state.Head = 0
 content_left f (state.Length count) = count
 content_left f state.Chunked = left_of f.body.place
-content_left f state.Closed = 0
+content_left f (state.Closed bare) = 0
 
 -- after a step that is no head no end waits to be told
 abbrev pub StaysOpen : State → Step → Type 0

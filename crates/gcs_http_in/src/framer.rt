@@ -2,8 +2,11 @@
 ghost use Rattle.std.specs.Prelude.{◌≡◌, ◌≢◌, ℕ, ◌+◌, ◌-◌, ◌<◌, ◌≤◌, ◌++◌, List, [], ◌∷◌, length, take, slice_range, vec_len, IfOk, ◌&&◌, not, ◌==◌, Option, Some, None};
 ghost use Rattle.gcs_http_in.specs.declared.state.State.TheVariants.{Head as AtHead, Chunked as AtChunks};
 
+mod parts;
+
 use crate::chunked::{ChunkStep, ChunkedBody};
 use crate::fields::Framing;
+use crate::head::stays_bare;
 use crate::limits::Limits;
 use crate::reader::{HeadReader, HeadStep};
 use crate::state::{State, Step, Taken};
@@ -31,14 +34,14 @@ pub struct Framer {
 
 impl Framer {
     ghost use Rattle.gcs_http_in.specs.Usual.{IsAllowed};
-    ghost use Rattle.std.specs.Prelude.{MatchOption, false};
+    ghost use Rattle.gcs_http_in.specs.Copies.{IsSameFramer};
+    ghost use Rattle.std.specs.Prelude.{false};
     ghost use Rattle.std.specs.List.{list_all};
     ghost use Rattle.gcs_http_in.specs.Lines.{is_end_byte};
-    ghost use Rattle.gcs_http_in.specs.Fields.{first_of, values_of};
-    ghost use Rattle.gcs_http_in.specs.Message.{Message, whole, stays, AllKeep, Spells};
+    ghost use Rattle.gcs_http_in.specs.Message.{Message, whole, Spells};
     ghost use Rattle.gcs_http_in.specs.ChunkState.{left_of};
     ghost use Rattle.gcs_http_in.specs.Progress.{Current};
-    ghost use Rattle.gcs_http_in.specs.Stands.{Stands, Pushed, TakesContent, StaysOpen, Told, Took, IsDue, IsInMessage, IsReady, IsAtByte, content_left, limits_of};
+    ghost use Rattle.gcs_http_in.specs.Stands.{Stands, Pushed, TakesContent, StaysOpen, Told, Took, IsDue, IsReady, IsAtByte, content_left, limits_of};
 
     /// A framer that has taken nothing. `Err`: no memory for a head.
     pub fn new(alloc: Global, limits: &Limits) -> Result<Framer, AllocError>
@@ -54,6 +57,21 @@ impl Framer {
             left: limits.requests,
             keeps: true,
             state: State::Head,
+        })
+    }
+
+    /// A framer that has taken the same bytes, and reads on as this one. `Err`: no memory for a head.
+    pub fn copy(&self) -> Result<Framer, AllocError>
+        ensures same { IfOk result (λ made. IsSameFramer made self.now) }
+        ensures stands { IfOk result (λ made. (bytes : List ℕ) (messages : List Message) (current : Option Current)
+            → Stands self.now bytes messages current → Stands made bytes messages current) }
+    {
+        Ok(Framer {
+            head: self.head.copy()?,
+            body: self.body.copy()?,
+            left: self.left,
+            keeps: self.keeps,
+            state: self.state,
         })
     }
 
@@ -113,69 +131,17 @@ impl Framer {
         self.head.limits()
     }
 
-    /// The method of the message whose head was told.
-    pub fn method(&self) -> &[u8]
-        requires { IsInMessage self.now }
-        ensures { (bytes : List ℕ) (messages : List Message) (it : Current)
-            → Stands self.now bytes messages (Some it) → result.now ≡ it.head.method }
-    {
-        self.head.method()
-    }
-
-    /// Its request target, as it stands in the first line.
-    pub fn target(&self) -> &[u8]
-        requires { IsInMessage self.now }
-        ensures { (bytes : List ℕ) (messages : List Message) (it : Current)
-            → Stands self.now bytes messages (Some it) → result.now ≡ it.head.target }
-    {
-        self.head.target()
-    }
-
-    /// Its version's second number: 0 or 1.
-    pub fn minor(&self) -> u8
-        requires { IsInMessage self.now }
-        ensures { (bytes : List ℕ) (messages : List Message) (it : Current)
-            → Stands self.now bytes messages (Some it) → result ≡ it.head.minor }
-    {
-        self.head.minor()
-    }
-
-    /// The value of its first field of a name, which is compared without regard to case; blanks round the value are
-    /// dropped.
-    pub fn field(&self, name: &[u8]) -> Option<&[u8]>
-        requires { IsInMessage self.now }
-        ensures { (bytes : List ℕ) (messages : List Message) (it : Current)
-            → Stands self.now bytes messages (Some it)
-            → MatchOption result (first_of (values_of name.now it.head.fields) ≡ None)
-            (λ v. first_of (values_of name.now it.head.fields) ≡ Some v.now) }
-    {
-        self.head.field(name)
-    }
-
-    /// Whether it keeps the connection: its version and `Connection` field let it stay (RFC 9112, 9.3), and it isn't
-    /// the last message that the limits allow.
-    pub fn keeps(&self) -> bool
-        ensures { (bytes : List ℕ) (messages : List Message) (it : Current)
-            → Stands self.now bytes messages (Some it)
-            → result ≡ (stays it.head && not (1 + length messages == (limits_of self.now).requests)) }
-    {
-        self.keeps
-    }
-
-    /// Whether only CR and LF bytes came since the last end. After a message that closes the connection: no.
+    /// Whether only CR and LF bytes came since the last end.
     pub fn at_start(&self) -> bool
         ensures inside { (bytes : List ℕ) (messages : List Message) (it : Current)
             → Stands self.now bytes messages (Some it) → result ≡ false }
         ensures between { (bytes : List ℕ) (messages : List Message) (rest : List ℕ)
-            → Stands self.now bytes messages None → AllKeep messages
-            → Spells (limits_of self.now) bytes messages rest → result ≡ list_all is_end_byte rest }
-        ensures closed { (bytes : List ℕ) (messages : List Message)
-            → Stands self.now bytes messages None
-            → (AllKeep messages → ⊥) → result ≡ false }
+            → Stands self.now bytes messages None → Spells (limits_of self.now) bytes messages rest → result ≡ list_all is_end_byte rest }
     {
         match self.state {
             State::Head => self.head.is_bare(),
-            _ => false,
+            State::Closed { bare } => bare,
+            State::Length(_) | State::Chunked => false,
         }
     }
 
@@ -204,7 +170,7 @@ impl Framer {
                 Step::Head
             }
             HeadStep::Fault(fault) => {
-                self.state = State::Closed;
+                self.state = State::Closed { bare: true };
                 Step::Fault(fault)
             }
         }
@@ -219,7 +185,7 @@ impl Framer {
             → Stands self.new bytes (messages ++ whole it.head it.content self.old.keeps ∷ []) None }
     {
         if !self.keeps {
-            self.state = State::Closed;
+            self.state = State::Closed { bare: true };
             return;
         }
         self.left = self.left.saturating_sub(1);
@@ -246,7 +212,7 @@ impl Framer {
                 Step::End
             }
             ChunkStep::Fault(fault) => {
-                self.state = State::Closed;
+                self.state = State::Closed { bare: true };
                 Step::Fault(fault)
             }
         }
@@ -265,7 +231,12 @@ impl Framer {
             State::Head => self.push_head(byte),
             State::Chunked => self.push_chunked(byte),
             State::Length(_) => Step::More,
-            State::Closed => Step::More,
+            State::Closed { bare } => {
+                self.state = State::Closed {
+                    bare: stays_bare(bare, byte),
+                };
+                Step::More
+            }
         }
     }
 

@@ -3,8 +3,6 @@
 #![tactic(auto)]
 
 mod chunked;
-#[cfg(test)]
-mod conversations;
 mod fault;
 mod fields;
 mod framer;
@@ -14,8 +12,6 @@ mod limits;
 mod reader;
 mod request;
 mod state;
-#[cfg(test)]
-mod tests;
 
 pub use fault::FrameFault;
 pub use framer::Framer;

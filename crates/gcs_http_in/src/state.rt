@@ -10,8 +10,8 @@ pub enum State {
     Length(u64),
     /// In a body by chunks.
     Chunked,
-    /// The last message closed the connection.
-    Closed,
+    /// The last message closed the connection. Whether only CR and LF came since.
+    Closed { bare: bool },
 }
 
 /// What a byte brings.

@@ -1,4 +1,4 @@
-use Rattle.gcs_http_in.proofs.FramerLemmas.{holds_in}
+use Rattle.gcs_http_in.proofs.UnderWay.{holds_in}
 use Rattle.gcs_http_in.proofs.framer.Framer.minor.Goals as goal
 
 pub minor-requires : goal.minor-requires
