@@ -1,0 +1,16 @@
+mod Running
+mod Seeking
+mod Passing
+mod Heads
+mod Feeding
+mod Fronts
+mod OneBody
+mod Standing
+mod FirstContents
+mod WordLemmas
+mod FieldLemmas
+mod ParameterItems
+mod ParametersTold
+mod ParametersRead
+mod ReadingLemmas
+mod ContentTypes
