@@ -1,17 +1,14 @@
 -- The numbers of a slot rise by at most one with each step.
-use Rattle.std.proofs.Common.{◌≡◌, ◌≤◌, ◌+◌, ℕ, suc, Bool, true, false, List, [], ◌∷◌, length, Option, Some, None, sym, subst, zero-add, add-zero, arith}
+use Rattle.std.proofs.Common.{◌≡◌, ◌≤◌, ◌+◌, ◌^◌, ℕ, suc, Bool, true, false, List, [], ◌∷◌, length, Option, Some, None, subst, arith}
 use Rattle.std.specs.Prelude.{filter, is_some, nat_lt, if◌then◌else◌}
+use Rattle.std.specs.Option.{IfSome}
 use Rattle.std.specs.List.{AllByRecursion}
-use Rattle.std.specs.declared.cmp.Ordering.{Ordering}
-use Rattle.std.specs.declared.cmp.Ordering.TheVariants.{Less, Equal, Greater}
-use Rattle.std.specs.Ordering.{nat_cmp}
-use Rattle.std.specs.Cmp.Lexicographic.{slice_cmp}
 use Rattle.gcs_meaning.specs.declared.version.Row.{Row}
 use Rattle.gcs_meaning.specs.declared.policy.Retired.{Retired}
 use Rattle.gcs_meaning.specs.declared.policy.Retired.TheVariants.{Noncurrent as ToNoncurrent, Soft as ToSoft, Out}
 use Rattle.gcs_meaning.specs.declared.command.Answer.{Answer}
 use Rattle.gcs_meaning.specs.declared.command.Command.{Command}
-use Rattle.gcs_meaning.specs.declared.command.Command.TheVariants.{BucketInsert, BucketGet, BucketChange, BucketDelete, BucketRestore, List as Listing, Get, Change, Delete, Put}
+use Rattle.gcs_meaning.specs.declared.command.Command.TheVariants.{BucketInsert, BucketGet, BucketChange, BucketDelete, List as Listing, Get, Change, Delete, Put}
 use Rattle.gcs_meaning.specs.declared.command.Entry.{Entry}
 use Rattle.gcs_meaning.specs.Moment.{effective_moment, last_reading}
 use Rattle.gcs_meaning.specs.Slot.{State, Grave, Slot, fresh_slot}
@@ -19,16 +16,17 @@ use Rattle.gcs_meaning.specs.Aging.{kind_stays, aged_state, aged_alive, aged_gra
 use Rattle.gcs_meaning.specs.Policy.{retired_to}
 use Rattle.gcs_meaning.specs.Choosing.{is_chosen}
 use Rattle.gcs_meaning.specs.Retiring.{retired_row}
-use Rattle.gcs_meaning.specs.Buckets.{grave_of, with_grave}
-use Rattle.gcs_meaning.specs.ObjectChanges.{change_state}
-use Rattle.gcs_meaning.specs.Deletes.{delete_state}
+use Rattle.gcs_meaning.specs.BucketDeletion.{grave_of, with_grave}
+use Rattle.gcs_meaning.specs.ObjectChange.{change_state}
+use Rattle.gcs_meaning.specs.ObjectDeletion.{delete_state}
 use Rattle.gcs_meaning.specs.Put.{put_state}
 use Rattle.gcs_meaning.specs.Step.{step, command_step}
-use Rattle.gcs_meaning.specs.Fit.{IfThere}
-use Rattle.gcs_meaning.specs.History.{Slots, slot_of, with_slot, set_by, found_by, bucket_of, first_step, slot_step, named_step, shard_step, replay_from, replay}
-use Rattle.gcs_meaning.specs.Bounds.{IsChangedAtMost, IsWithin, AreWithin}
+use Rattle.gcs_meaning.specs.History.{replay}
+use Rattle.gcs_meaning.specs.Bounds.{IsChangedAtMost, IsSmall, IsWithin, AreWithin}
+use Rattle.gcs_meaning.specs.Laws.{SmallIsKept}
 use Rattle.gcs_meaning.proofs.Listed.{all-filter, all-map, all-weaker, all-change_first, all-with_row, some-weaker}
 use Rattle.gcs_meaning.proofs.Chosen.{all-chosen}
+use Rattle.gcs_meaning.proofs.Replays.{IsKept, replay_kept, slot_replayed}
 use Rattle.gcs_meaning.proofs.Cases.{insert_cases, bucket_get_cases, bucket_change_cases, bucket_delete_cases, list_cases, get_cases, change_cases, delete_cases, put_cases}
 
 -- a version was changed at most n times
@@ -46,6 +44,7 @@ within_more n slot h = record {
   moment = h.moment;
   object = omega (arith, h.object);
   bucket = omega (arith, h.bucket);
+  upload = omega (arith, h.upload);
   changes = some-weaker (IsChangedAtMost n) (IsChangedAtMost (suc n)) (changes_more n) slot.alive h.changes;
   graves = graves_more n slot.graves h.graves;
 }
@@ -54,7 +53,7 @@ state_aged : (t n : ℕ) (s : State) → IsChangedAtMost n s → IsChangedAtMost
 unfolding aged_state
 state_aged t n s h = record { bucket = h.bucket; rows = all-filter (IsRowWithin n) (λ row. kind_stays t row.kind) s.rows h.rows }
 
-alive_aged : (t n : ℕ) (alive : Option State) → IfThere alive (IsChangedAtMost n) → IfThere (aged_alive t alive) (IsChangedAtMost n)
+alive_aged : (t n : ℕ) (alive : Option State) → IfSome alive (IsChangedAtMost n) → IfSome (aged_alive t alive) (IsChangedAtMost n)
 alive_aged t n None h = h
 alive_aged t n (Some s) h = state_aged t n s h
 
@@ -66,16 +65,16 @@ graves_aged t n graves h =
 
 aged_within : (n : ℕ) (slot : Slot) (t : ℕ) → t ≤ last_reading → IsWithin n slot → IsWithin n (aged slot t)
 aged_within n slot t fits h =
-    record { moment = fits; object = h.object; bucket = h.bucket; changes = alive_aged t n slot.alive h.changes; graves = graves_aged t n slot.graves h.graves }
+    record { moment = fits; object = h.object; bucket = h.bucket; upload = h.upload; changes = alive_aged t n slot.alive h.changes; graves = graves_aged t n slot.graves h.graves }
 
 -- the bucket that is alive
 living_within : (n : ℕ) (slot : Slot) (s : State) → slot.alive ≡ Some s → IsWithin n slot → IsChangedAtMost n s
-living_within n slot s is h = subst (λ alive. IfThere alive (IsChangedAtMost n)) is h.changes
+living_within n slot s is h = subst (λ alive. IfSome alive (IsChangedAtMost n)) is h.changes
 
 -- a slot whose bucket becomes another one
 alive_within : (n : ℕ) (slot : Slot) (s : State) → IsChangedAtMost (suc n) s → IsWithin n slot → IsWithin (suc n) (record slot { alive = Some s })
 alive_within n slot s new h =
-    record { moment = h.moment; object = omega (arith, h.object); bucket = omega (arith, h.bucket); changes = new; graves = graves_more n slot.graves h.graves }
+    record { moment = h.moment; object = omega (arith, h.object); bucket = omega (arith, h.bucket); upload = omega (arith, h.upload); changes = new; graves = graves_more n slot.graves h.graves }
 
 grave_within : (b : Bool) (n : ℕ) (g : Grave) (graves : List Grave) → IsChangedAtMost n g.state → AllByRecursion (λ x. IsChangedAtMost n x.state) graves
     → AllByRecursion (λ x. IsChangedAtMost n x.state) (if b then g ∷ graves else graves)
@@ -90,6 +89,7 @@ deleted_within n t slot s is h =
       moment = h.moment;
       object = omega (arith, h.object);
       bucket = omega (arith, h.bucket);
+      upload = omega (arith, h.upload);
       changes = tt;
       graves = grave_within (nat_lt t (grave_of t s).hard) (suc n) (grave_of t s) slot.graves (record { bucket = new.bucket; rows = new.rows }) (graves_more n slot.graves h.graves);
     }
@@ -129,7 +129,7 @@ Within n done = IsWithin (suc n) done.1
 command_within : (command : Command) (slot : Slot) (n t : ℕ) → t ≤ last_reading → IsWithin n slot → IsWithin (suc n) (command_step slot t command).1
 command_within (BucketInsert bucket settings) slot n t fits h =
     insert_cases (Within n) slot t bucket settings (λ reason. within_more n slot h)
-    (λ free. record { moment = h.moment; object = omega (arith, h.object); bucket = omega (arith, h.bucket, fits); changes = record { bucket = omega arith; rows = tt }; graves = graves_more n slot.graves h.graves })
+    (λ free. record { moment = h.moment; object = omega (arith, h.object); bucket = omega (arith, h.bucket, fits); upload = omega (arith, h.upload); changes = record { bucket = omega arith; rows = tt }; graves = graves_more n slot.graves h.graves })
 command_within (BucketGet bucket pre) slot n t fits h = bucket_get_cases (Within n) slot bucket pre (λ reason. within_more n slot h) (λ s. within_more n slot h)
 command_within (BucketChange bucket pre change whole) slot n t fits h =
     bucket_change_cases (Within n) slot t bucket pre change whole (λ reason. within_more n slot h)
@@ -156,6 +156,7 @@ command_within (Put bucket name pre meta hashed components expect) slot n t fits
       moment = h.moment;
       object = omega (arith, h.object, fits);
       bucket = omega (arith, h.bucket);
+      upload = omega (arith, h.upload);
       changes = put_state_within (suc n) t s _ (omega arith) (changes_more n s (living_within n slot s is h));
       graves = graves_more n slot.graves h.graves;
     })
@@ -168,62 +169,41 @@ step_within n slot reading command h =
     let fits : t ≤ last_reading = omega arith in
     command_within command (aged slot t) n t fits (aged_within n slot t fits h)
 
-are_within_more : (n : ℕ) (slots : Slots) → AreWithin n slots → AreWithin (suc n) slots
-are_within_more n [] h = tt
-are_within_more n (p ∷ ps) h = (within_more n p.1 h.0, are_within_more n ps h.1)
-
-set_within : (o : Ordering) (n : ℕ) (name : List ℕ) (slot : Slot) (p : List ℕ × Slot) (ps rest : Slots) → IsWithin n slot → IsWithin n p.1 → AreWithin n ps → AreWithin n rest → AreWithin n (set_by o name slot p ps rest)
-set_within Less n name slot p ps rest s h hs hr = (s, (h, hs))
-set_within Equal n name slot p ps rest s h hs hr = (s, hs)
-set_within Greater n name slot p ps rest s h hs hr = (h, hr)
-
-with_slot_within : (n : ℕ) (name : List ℕ) (slot : Slot) (slots : Slots) → IsWithin n slot → AreWithin n slots → AreWithin n (with_slot name slot slots)
-with_slot_within n name slot [] s h = (s, tt)
-with_slot_within n name slot (p ∷ ps) s h =
-    set_within (slice_cmp nat_cmp name p.0) n name slot p ps (with_slot name slot ps) s h.0 h.1 (with_slot_within n name slot ps s h.1)
-
-abbrev OptionWithin : ℕ → Option Slot → Type 0
-OptionWithin n None = Unit {0}
-OptionWithin n (Some slot) = IsWithin n slot
-
-found_within : (o : Ordering) (n : ℕ) (slot : Slot) (rest : Option Slot) → IsWithin n slot → OptionWithin n rest → OptionWithin n (found_by o slot rest)
-found_within Less n slot rest h hr = tt
-found_within Equal n slot rest h hr = h
-found_within Greater n slot rest h hr = hr
-
-slot_of_within : (n : ℕ) (name : List ℕ) (slots : Slots) → AreWithin n slots → OptionWithin n (slot_of name slots)
-slot_of_within n name [] h = tt
-slot_of_within n name (p ∷ ps) h = found_within (slice_cmp nat_cmp name p.0) n p.1 (slot_of name ps) h.0 (slot_of_within n name ps h.1)
-
 fresh_within : (n : ℕ) → IsWithin n fresh_slot
-fresh_within n = record { moment = omega arith; object = omega arith; bucket = omega arith; changes = tt; graves = tt }
+fresh_within n = record { moment = omega arith; object = omega arith; bucket = omega arith; upload = omega arith; changes = tt; graves = tt }
 
-first_within : (command : Command) (n : ℕ) (name : List ℕ) (slots : Slots) (reading : ℕ) → AreWithin n slots → AreWithin (suc n) (first_step name slots reading command).1
-first_within (BucketInsert bucket settings) n name slots reading h =
-    with_slot_within (suc n) name _ slots (step_within n fresh_slot reading (BucketInsert bucket settings) (fresh_within n)) (are_within_more n slots h)
-first_within (BucketRestore bucket generation) n name slots reading h = are_within_more n slots h
-first_within _ n name slots reading h = are_within_more n slots h
-
-slot_within : (found : Option Slot) (n : ℕ) (name : List ℕ) (slots : Slots) (reading : ℕ) (command : Command) → OptionWithin n found → AreWithin n slots → AreWithin (suc n) (slot_step found name slots reading command).1
-slot_within None n name slots reading command hf h = first_within command n name slots reading h
-slot_within (Some slot) n name slots reading command hf h =
-    with_slot_within (suc n) name _ slots (step_within n slot reading command hf) (are_within_more n slots h)
-
-named_within : (named : Option (List ℕ)) (n : ℕ) (slots : Slots) (reading : ℕ) (command : Command) → AreWithin n slots → AreWithin (suc n) (named_step named slots reading command).1
-named_within None n slots reading command h = are_within_more n slots h
-named_within (Some name) n slots reading command h = slot_within (slot_of name slots) n name slots reading command (slot_of_within n name slots h) h
-
-shard_within : (n : ℕ) (slots : Slots) (reading : ℕ) (command : Command) → AreWithin n slots → AreWithin (suc n) (shard_step slots reading command).1
-unfolding shard_step
-shard_within n slots reading command h = named_within (bucket_of command) n slots reading command h
-
-replay_from_within : (es : List Entry) (n : ℕ) (slots : Slots) → AreWithin n slots → AreWithin (length es + n) (replay_from slots es)
-replay_from_within [] n slots h = subst (λ m. AreWithin m slots) (sym (zero-add n)) h
-replay_from_within (e ∷ es) n slots h =
-    let more = replay_from_within es (suc n) (shard_step slots e.moment e.command).1 (shard_within n slots e.moment e.command h) in
-    let same : length es + suc n ≡ suc (length es) + n = omega arith in
-    subst (λ m. AreWithin m (replay_from (shard_step slots e.moment e.command).1 es)) same more
+within_kept : IsKept IsWithin
+within_kept = record { fresh = fresh_within; later = within_more; stepped = step_within }
 
 -- the slots of a history
 pub replay_within : (es : List Entry) → AreWithin (length es) (replay es)
-replay_within es = subst (λ m. AreWithin m (replay es)) (add-zero (length es)) (replay_from_within es 0 [] tt)
+replay_within es = replay_kept IsWithin within_kept es
+
+-- numbers within 2^61 steps are small
+changed_more : (m n : ℕ) → m ≤ n → (s : State) → IsChangedAtMost m s → IsChangedAtMost n s
+changed_more m n above s h = record {
+  bucket = omega (arith, h.bucket);
+  rows = all-weaker (IsRowWithin m) (IsRowWithin n) (λ row few. omega (arith, few, above)) s.rows h.rows;
+}
+
+pub small_within : (n : ℕ) (slot : Slot) → n ≤ 2 ^ 61 → IsWithin n slot → IsSmall slot
+small_within n slot few h =
+    let most : n ≤ 2 ^ 62 = omega (arith, few) in
+    record {
+      moment = omega (arith, h.moment);
+      object = omega (arith, h.object, few);
+      bucket = omega (arith, h.bucket, few);
+      upload = omega (arith, h.upload, few);
+      changes = some-weaker (IsChangedAtMost n) (IsChangedAtMost (2 ^ 62)) (changed_more n (2 ^ 62) most) slot.alive h.changes;
+      graves = all-weaker (λ g. IsChangedAtMost n g.state) (λ g. IsChangedAtMost (2 ^ 62) g.state) (λ g. changed_more n (2 ^ 62) most g.state) slot.graves h.graves;
+    }
+
+pub small_is_kept : SmallIsKept
+small_is_kept = record {
+  fresh = fresh_within 0;
+  kept = λ n slot moment command h.
+      let same : suc n ≡ n + 1 = omega arith in
+      subst (λ m. IsWithin m (step slot moment command).1) same (step_within n slot moment command h);
+  replayed = slot_replayed IsWithin within_kept;
+  small = small_within;
+}

@@ -24,10 +24,10 @@ use Rattle.gcs_meaning.specs.Slot.{State, Grave, Slot}
 use Rattle.gcs_meaning.specs.Aging.{kind_stays, aged_state, aged_alive, aged_grave, aged_graves, aged}
 use Rattle.gcs_meaning.specs.Choosing.{is_readable, is_chosen, chosen_row, live_row}
 use Rattle.gcs_meaning.specs.Retiring.{facts_of, cover_refusal, taken_refusal, retired_row}
-use Rattle.gcs_meaning.specs.Buckets.{latest_hard, empty_refusal, bucket_delete_refusal, grave_of, with_grave}
-use Rattle.gcs_meaning.specs.BucketChanges.{changed_settings, bucket_change_state}
-use Rattle.gcs_meaning.specs.ObjectChanges.{changed_meta, changed_row, change_state}
-use Rattle.gcs_meaning.specs.Deletes.{delete_refusal, delete_state}
+use Rattle.gcs_meaning.specs.BucketDeletion.{latest_hard, empty_refusal, bucket_delete_refusal, grave_of, with_grave}
+use Rattle.gcs_meaning.specs.BucketChange.{changed_settings, bucket_change_state}
+use Rattle.gcs_meaning.specs.ObjectChange.{changed_meta, changed_row, change_state}
+use Rattle.gcs_meaning.specs.ObjectDeletion.{delete_refusal, delete_state}
 use Rattle.gcs_meaning.specs.Put.{generation_of, metageneration_of, replaced_refusal, put_refusal, put_state, new_row}
 use Rattle.gcs_meaning.specs.Step.{command_step}
 use Rattle.gcs_meaning.specs.Fit.{IsFitGrave, IsSoftUntil}

@@ -1,6 +1,7 @@
 -- A slot that is fit stays so as time passes: with greater counters, and once it is aged.
 use Rattle.std.proofs.Common.{◌≢◌, ◌≤◌, ◌+◌, ℕ, Bool, true, false, List, [], ◌∷◌, ◌++◌, Option, Some, None, arith}
 use Rattle.std.specs.Prelude.{filter, map, nat_lt, nat_le, if◌then◌else◌}
+use Rattle.std.specs.Option.{IfSome}
 use Rattle.std.specs.List.{AllByRecursion}
 use Rattle.gcs_meaning.specs.declared.version.Row.{Row}
 use Rattle.gcs_meaning.specs.declared.uploading.Upload.{Upload}
@@ -9,8 +10,9 @@ use Rattle.gcs_meaning.specs.declared.uploading.UploadState.TheVariants.{Running
 use Rattle.gcs_meaning.specs.Uploads.{upload_time, expired_if, aged_upload, aged_uploads}
 use Rattle.gcs_meaning.specs.Slot.{State, Grave, Slot}
 use Rattle.gcs_meaning.specs.Aging.{kind_stays, aged_state, aged_alive, aged_grave, aged_graves, aged}
-use Rattle.gcs_meaning.specs.Fit.{IfThere, IsFitRow, IsFitEnd, IsFitUpload, IsFitState, IsSoftUntil, IsFitGrave, living_generation, Differ, IsFit}
+use Rattle.gcs_meaning.specs.Fit.{IsFitRow, IsFitEnd, IsFitUpload, IsFitState, IsSoftUntil, IsFitGrave, living_generation, Differ, IsFit}
 use Rattle.gcs_meaning.proofs.Listed.{all-filter, all-map, all-weaker, some-weaker}
+use Rattle.gcs_meaning.proofs.Ordered.{filtered_rise, filtered_single}
 
 -- greater counters: what is fit stays so
 row_later : (o p m n : ℕ) → o ≤ p → m ≤ n → (row : Row) → IsFitRow o m row → IsFitRow p n row
@@ -34,6 +36,8 @@ state_later o p m n u later after s h = record {
   soft = omega (arith, h.soft);
   policy = some-weaker (λ policy. policy.since ≤ m) (λ policy. policy.since ≤ n) (λ policy since. omega arith) s.settings.retention h.policy;
   rows = all-weaker (IsFitRow o m) (IsFitRow p n) (row_later o p m n later after) s.rows h.rows;
+  rise = h.rise;
+  single = h.single;
   uploads = all-weaker (IsFitUpload o m u) (IsFitUpload p n u) (upload_later o p m n u later after) s.uploads h.uploads;
 }
 
@@ -60,6 +64,8 @@ state_aged t o m u s h = record {
   soft = h.soft;
   policy = h.policy;
   rows = all-filter (IsFitRow o m) (λ row. kind_stays t row.kind) s.rows h.rows;
+  rise = filtered_rise (λ row. kind_stays t row.kind) s.rows h.rise;
+  single = filtered_single (λ row. kind_stays t row.kind) s.rows h.single;
   uploads = all-map (IsFitUpload o m u) (IsFitUpload o m u) (λ numbered. (numbered.0, aged_upload t numbered.1)) (upload_aged t o m u) s.uploads h.uploads;
 }
 
@@ -68,7 +74,7 @@ unfolding aged_state
 grave_aged t o m u g h =
     record { state = state_aged t o m u g.state h.state; soft = all-filter (λ row. IsSoftUntil g.hard row.kind) (λ row. kind_stays t row.kind) g.state.rows h.soft }
 
-alive_aged : (t o m u : ℕ) (alive : Option State) → IfThere alive (IsFitState o m u) → IfThere (aged_alive t alive) (IsFitState o m u)
+alive_aged : (t o m u : ℕ) (alive : Option State) → IfSome alive (IsFitState o m u) → IfSome (aged_alive t alive) (IsFitState o m u)
 alive_aged t o m u None h = h
 alive_aged t o m u (Some s) h = state_aged t o m u s h
 

@@ -8,8 +8,9 @@ pub mod Fitting
 pub mod Keys
 pub mod Listed
 pub mod Members
+pub mod Ordered
+pub mod Orders
 pub mod Passing
-pub mod Reading
 pub mod Replays
 pub mod Rising
 pub mod Slices

@@ -1,11 +1,12 @@
 -- Facts of all members of a list, over what the rules of the store do to it.
 use Rattle.std.proofs.Common.{Bool, true, false, List, [], ◌∷◌, ◌++◌, Option, Some, None}
 use Rattle.std.specs.Prelude.{filter, map, if◌then◌else◌}
+use Rattle.std.specs.Option.{IfSome}
 use Rattle.std.specs.List.{AllByRecursion}
 use Rattle.gcs_meaning.specs.declared.version.Row.{Row}
-use Rattle.gcs_meaning.specs.Fit.{IfThere}
 use Rattle.gcs_meaning.specs.Retiring.{change_first}
-use Rattle.gcs_meaning.specs.Put.{is_before, with_row}
+use Rattle.gcs_meaning.specs.Order.{comes_before, place_of}
+use Rattle.gcs_meaning.specs.Put.{with_row}
 
 pub all-filter : {X : Type 0} (P : X → Type 0) (q : X → Bool) (xs : List X) → AllByRecursion P xs → AllByRecursion P (filter q xs)
 all-filter P q [] h = h
@@ -27,7 +28,7 @@ pub all-append : {X : Type 0} (P : X → Type 0) (xs ys : List X) → AllByRecur
 all-append P [] ys h more = more
 all-append P (x ∷ xs) ys h more = (h.0, all-append P xs ys h.1 more)
 
-pub some-weaker : {X : Type 0} (P Q : X → Type 0) → ((x : X) → P x → Q x) → (o : Option X) → IfThere o P → IfThere o Q
+pub some-weaker : {X : Type 0} (P Q : X → Type 0) → ((x : X) → P x → Q x) → (o : Option X) → IfSome o P → IfSome o Q
 some-weaker P Q weaker None h = h
 some-weaker P Q weaker (Some x) h = weaker x h
 
@@ -49,4 +50,4 @@ placed_all false P row first rest placed new old more deeper = (old, deeper)
 pub all-with_row : (P : Row → Type 0) (row : Row) (rows : List Row) → P row → AllByRecursion P rows → AllByRecursion P (with_row row rows)
 all-with_row P row [] new h = (new, tt)
 all-with_row P row (first ∷ rest) new h =
-    placed_all (is_before row first) P row first rest (with_row row rest) new h.0 h.1 (all-with_row P row rest new h.1)
+    placed_all (comes_before (place_of row) (place_of first)) P row first rest (with_row row rest) new h.0 h.1 (all-with_row P row rest new h.1)

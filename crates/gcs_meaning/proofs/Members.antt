@@ -4,7 +4,8 @@ use Rattle.std.specs.Prelude.{filter, map, if◌then◌else◌}
 use Rattle.std.specs.List.{find, AllByRecursion}
 use Rattle.gcs_meaning.specs.declared.version.Row.{Row}
 use Rattle.gcs_meaning.specs.Retiring.{change_first}
-use Rattle.gcs_meaning.specs.Put.{is_before, with_row}
+use Rattle.gcs_meaning.specs.Order.{comes_before, place_of}
+use Rattle.gcs_meaning.specs.Put.{with_row}
 use Rattle.gcs_meaning.specs.Keeping.{HoldsOfOne, IsOneOf}
 
 -- what holds of a member holds of one
@@ -82,7 +83,7 @@ placed_one false P row first rest placed (inr h) deeper = inr (deeper h)
 
 pub one-with_row : (P : Row → Type 0) (row : Row) (rows : List Row) → HoldsOfOne P rows → HoldsOfOne P (with_row row rows)
 one-with_row P row [] h = absurd h
-one-with_row P row (first ∷ rest) h = placed_one (is_before row first) P row first rest (with_row row rest) h (one-with_row P row rest)
+one-with_row P row (first ∷ rest) h = placed_one (comes_before (place_of row) (place_of first)) P row first rest (with_row row rest) h (one-with_row P row rest)
 
 pub one-weaker : {X : Type 0} (P Q : X → Type 0) → ((x : X) → P x → Q x) → (xs : List X) → HoldsOfOne P xs → HoldsOfOne Q xs
 one-weaker P Q weaker [] h = h

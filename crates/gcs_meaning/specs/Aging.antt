@@ -20,10 +20,12 @@ aged_rows t rows = filter (λ row. kind_stays t row.kind) rows
 unfoldable pub aged_state : ℕ → State → State
 aged_state t s = record s { rows = aged_rows t s.rows; uploads = aged_uploads t s.uploads }
 
+-- the bucket that is alive at t, if one is
 abbrev pub aged_alive : ℕ → Option State → Option State
 aged_alive t None = None
 aged_alive t (Some s) = Some (aged_state t s)
 
+-- a deleted bucket at t: its own hard time stays
 abbrev pub aged_grave : ℕ → Grave → Grave
 aged_grave t g = record g { state = aged_state t g.state }
 

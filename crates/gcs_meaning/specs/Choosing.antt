@@ -6,6 +6,7 @@ use Rattle.gcs_meaning.specs.declared.version.Kind.{Kind}
 use Rattle.gcs_meaning.specs.declared.version.Kind.TheVariants.{Live, Noncurrent, Soft}
 use Rattle.gcs_meaning.specs.declared.version.Row.{Row}
 
+-- a version of this kind is live
 abbrev pub is_live : Kind → Bool
 is_live Live = true
 is_live (Noncurrent at) = false
@@ -30,6 +31,7 @@ abbrev pub is_chosen : List ℕ → Option ℕ → Row → Bool
 is_chosen name None row = is_live_of name row
 is_chosen name (Some generation) row = is_readable row.kind && (row.generation == generation) && bytes_eq name row.name
 
+-- the version that a request names, but a read of the soft-deleted ones
 abbrev pub chosen_row : List ℕ → Option ℕ → List Row → Option Row
 chosen_row name generation rows = find (is_chosen name generation) rows
 
@@ -43,5 +45,6 @@ abbrev pub is_asked : Bool → List ℕ → Option ℕ → Row → Bool
 is_asked false name generation row = is_chosen name generation row
 is_asked true name generation row = is_soft_chosen name generation row
 
+-- the version that a read asks for
 abbrev pub asked_row : Bool → List ℕ → Option ℕ → List Row → Option Row
 asked_row soft name generation rows = find (is_asked soft name generation) rows

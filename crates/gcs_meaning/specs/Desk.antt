@@ -13,6 +13,7 @@ use Rattle.gcs_meaning.specs.History.{AreDistinct, answer_of, bucket_of}
 abbrev pub Histories : Type 0
 Histories = ℕ → List Entry
 
+-- the bucket that is named, if one is, belongs to the shard
 abbrev pub IsNamedIn : ℕ → Option (List ℕ) → Type 0
 IsNamedIn shard (Some bucket) = shard ≡ shard_number bucket
 IsNamedIn shard None = Unit {0}

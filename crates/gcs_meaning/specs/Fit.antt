@@ -1,6 +1,8 @@
--- What holds of every slot that steps can reach: its counters are not behind what it has, and its sizes are in the limits.
+-- What holds of every slot that steps can reach: its counters are not behind what it has, its versions are in order with at most one
+-- live of a name, and its sizes are in the limits.
 use Rattle.std.specs.Prelude.{◌≢◌, ◌≤◌, ◌<◌, ℕ, length, List, [], ◌∷◌, ◌++◌, map, Option, Some, None}
 use Rattle.std.specs.List.{AllByRecursion}
+use Rattle.std.specs.Option.{IfSome}
 use Rattle.gcs_chunks.specs.Content.{bytes_of}
 use Rattle.gcs_meaning.specs.declared.version.Kind.{Kind}
 use Rattle.gcs_meaning.specs.declared.version.Kind.TheVariants.{Live, Noncurrent, Soft}
@@ -9,13 +11,9 @@ use Rattle.gcs_meaning.specs.declared.uploading.Upload.{Upload}
 use Rattle.gcs_meaning.specs.declared.uploading.UploadState.{UploadState}
 use Rattle.gcs_meaning.specs.declared.uploading.UploadState.TheVariants.{Running, Done, Cancelled, Expired}
 use Rattle.gcs_meaning.specs.Content.{bytes_in}
+use Rattle.gcs_meaning.specs.Order.{AreSingle, Rise}
 use Rattle.gcs_meaning.specs.Tests.{largest_object}
 use Rattle.gcs_meaning.specs.Slot.{State, Grave, Slot}
-
--- a fact of what is there, if anything is
-abbrev pub IfThere : {X : Type 0} → Option X → (X → Type 0) → Type 0
-IfThere None P = Unit {0}
-IfThere (Some x) P = P x
 
 -- the moment since when a version is what it is, where that isn't its update
 abbrev pub kind_began : Kind → ℕ
@@ -51,8 +49,10 @@ pub record IsFitState (last_object last_moment next_upload : ℕ) (s : State) : 
   pub created : s.created ≤ last_moment
   pub updated : s.updated ≤ last_moment
   pub soft : s.settings.soft_since ≤ last_moment
-  pub policy : IfThere s.settings.retention (λ policy. policy.since ≤ last_moment)
+  pub policy : IfSome s.settings.retention (λ policy. policy.since ≤ last_moment)
   pub rows : AllByRecursion (IsFitRow last_object last_moment) s.rows
+  pub rise : Rise s.rows
+  pub single : AreSingle s.rows
   pub uploads : AllByRecursion (IsFitUpload last_object last_moment next_upload) s.uploads
 
 -- a version that is soft-deleted, and gone at this moment
@@ -66,11 +66,12 @@ pub record IsFitGrave (last_object last_moment next_upload : ℕ) (g : Grave) : 
   pub state : IsFitState last_object last_moment next_upload g.state
   pub soft : AllByRecursion (λ row. IsSoftUntil g.hard row.kind) g.state.rows
 
--- the generations of the bucket that is alive and of the deleted ones
+-- the generation of the bucket that is alive
 abbrev pub living_generation : Option State → List ℕ
 living_generation None = []
 living_generation (Some s) = s.generation ∷ []
 
+-- the generations of the bucket that is alive and of the deleted ones
 abbrev pub bucket_generations : Slot → List ℕ
 bucket_generations slot = living_generation slot.alive ++ map (λ g. g.state.generation) slot.graves
 
@@ -79,9 +80,9 @@ abbrev pub Differ : List ℕ → Type 0
 Differ [] = Unit {0}
 Differ (n ∷ ns) = AllByRecursion (λ m. m ≢ n) ns × Differ ns
 
--- a slot that steps can reach
+-- what every slot that steps can reach is; not every slot that is so can be reached
 pub record IsFit (slot : Slot) : Type 0 where
-  pub alive : IfThere slot.alive (IsFitState slot.last_object slot.last_moment slot.next_upload)
+  pub alive : IfSome slot.alive (IsFitState slot.last_object slot.last_moment slot.next_upload)
   pub graves : AllByRecursion (IsFitGrave slot.last_object slot.last_moment slot.next_upload) slot.graves
   pub counted : AllByRecursion (λ generation. generation ≤ slot.last_bucket) (bucket_generations slot)
   pub differ : Differ (bucket_generations slot)

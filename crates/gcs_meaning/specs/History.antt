@@ -12,16 +12,16 @@ use Rattle.gcs_meaning.specs.declared.command.Command.{Command}
 use Rattle.gcs_meaning.specs.declared.command.Command.TheVariants.{BucketInsert, BucketList, BucketGet, BucketChange, BucketDelete, BucketLock, BucketRestore, List as Listing, Get, Change, Delete, Put, Compose, Restore, Start, Append, Finish, Cancel}
 use Rattle.gcs_meaning.specs.declared.command.Entry.{Entry}
 use Rattle.gcs_meaning.specs.declared.version.BucketRow.{BucketRow}
-use Rattle.gcs_meaning.specs.Slot.{State, Slot, fresh_slot}
+use Rattle.gcs_meaning.specs.Slot.{State, Slot, bucket_row, fresh_slot}
 use Rattle.gcs_meaning.specs.Texts.{begins}
 use Rattle.gcs_meaning.specs.Order.{is_below}
-use Rattle.gcs_meaning.specs.Buckets.{bucket_row}
 use Rattle.gcs_meaning.specs.Step.{step}
 
 -- the slots of a shard, rising by name
 abbrev pub Slots : Type 0
 Slots = List (List ℕ × Slot)
 
+-- the slot that the order of two names finds: this one, or what comes after it
 abbrev pub found_by : Ordering → Slot → Option Slot → Option Slot
 found_by Less slot rest = None
 found_by Equal slot rest = Some slot
@@ -32,6 +32,7 @@ abbrev pub slot_of : List ℕ → Slots → Option Slot
 slot_of name [] = None
 slot_of name (p ∷ ps) = found_by (slice_cmp nat_cmp name p.0) p.1 (slot_of name ps)
 
+-- the slots with this one at the place that the order of two names tells
 abbrev pub set_by : Ordering → List ℕ → Slot → List ℕ × Slot → Slots → Slots → Slots
 set_by Less name slot p ps rest = (name, slot) ∷ p ∷ ps
 set_by Equal name slot p ps rest = (p.0, slot) ∷ ps
@@ -63,6 +64,7 @@ bucket_of (Append bucket upload offset total content) = Some bucket
 bucket_of (Finish bucket upload hashed) = Some bucket
 bucket_of (Cancel bucket upload) = Some bucket
 
+-- what a step answers, and the slots with what it leaves
 abbrev pub set_slot : List ℕ → Slots → Answer × Slot → Answer × Slots
 set_slot name slots done = (done.0, with_slot name done.1 slots)
 
@@ -72,6 +74,7 @@ first_step name slots reading (BucketInsert bucket settings) = set_slot name slo
 first_step name slots reading (BucketRestore bucket generation) = (Refused NoGrave, slots)
 first_step name slots reading _ = (Refused NoBucket, slots)
 
+-- a command on a name, where its slot was found and where it has none
 abbrev pub slot_step : Option Slot → List ℕ → Slots → ℕ → Command → Answer × Slots
 slot_step (Some slot) name slots reading command = set_slot name slots (step slot reading command)
 slot_step None name slots reading command = first_step name slots reading command
@@ -103,6 +106,7 @@ named_step None slots reading command = (unnamed_answer slots command, slots)
 unfoldable pub shard_step : Slots → ℕ → Command → Answer × Slots
 shard_step slots reading command = named_step (bucket_of command) slots reading command
 
+-- the slots once these entries were made
 abbrev pub replay_from : Slots → List Entry → Slots
 replay_from slots [] = slots
 replay_from slots (e ∷ es) = replay_from (shard_step slots e.moment e.command).1 es
@@ -111,9 +115,11 @@ replay_from slots (e ∷ es) = replay_from (shard_step slots e.moment e.command)
 abbrev pub replay : List Entry → Slots
 replay entries = replay_from [] entries
 
+-- the entry has this caller and number
 abbrev pub is_entry : ℕ → ℕ → Entry → Bool
 is_entry caller number e = (e.caller == caller) && (e.number == number)
 
+-- the answer at the entry with these two numbers, on these slots
 abbrev pub answer_from : Slots → List Entry → ℕ → ℕ → Option Answer
 answer_from slots [] caller number = None
 answer_from slots (e ∷ es) caller number =

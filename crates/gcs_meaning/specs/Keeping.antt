@@ -16,6 +16,7 @@ HoldsOfOne P (x ∷ xs) = P x ⊎ HoldsOfOne P xs
 abbrev pub IsOneOf : {X : Type 0} → List X → X → Type 0
 IsOneOf xs x = HoldsOfOne (λ y. y ≡ x) xs
 
+-- the bucket that is alive, if one is, as a list
 abbrev pub living : Option State → List State
 living None = []
 living (Some s) = s ∷ []

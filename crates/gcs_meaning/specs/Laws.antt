@@ -1,5 +1,5 @@
 -- Laws over every slot, history and command.
-use Rattle.std.specs.Prelude.{◌≡◌, ◌<◌, ℕ, Bool, true, false, List, [], ◌∷◌, ◌++◌, Some}
+use Rattle.std.specs.Prelude.{◌≡◌, ◌≤◌, ◌<◌, ◌+◌, ◌^◌, ℕ, Bool, true, false, List, [], ◌∷◌, ◌++◌, length, Some}
 use Rattle.gcs_meaning.specs.declared.command.Answer.{Answer}
 use Rattle.gcs_meaning.specs.declared.command.Answer.TheVariants.{Bucket, Buckets, Empty, Object, Page as Paged, Refused}
 use Rattle.gcs_meaning.specs.declared.command.Command.{Command}
@@ -12,13 +12,15 @@ use Rattle.gcs_meaning.specs.Slot.{State, Slot, fresh_slot}
 use Rattle.gcs_meaning.specs.Fit.{IsFit}
 use Rattle.gcs_meaning.specs.Keeping.{IsOneOf, buckets_of, IsCovered, IsKept}
 use Rattle.gcs_meaning.specs.Step.{step, IsBuilt}
-use Rattle.gcs_meaning.specs.History.{AnswersAt, AreDistinct, answer_at, answer_of}
+use Rattle.gcs_meaning.specs.History.{AnswersAt, AreDistinct, answer_at, answer_of, replay, slot_of}
+use Rattle.gcs_meaning.specs.Bounds.{IsSmall, IsWithin}
 
 -- the command makes a version where it is done
 abbrev pub makes_version : Command → Bool
 makes_version (Put bucket name pre meta hashed components expect) = true
 makes_version _ = false
 
+-- the generation of the version that an answer shows
 abbrev pub generations_of : Answer → List ℕ
 generations_of (Object row settings) = row.generation ∷ []
 generations_of _ = []
@@ -43,10 +45,18 @@ IsRising n (x ∷ xs) = (n < x) × IsRising x xs
 abbrev pub GenerationsRise : Type 0
 GenerationsRise = (slot : Slot) (entries : List Entry) → IsRising slot.last_object (made_in slot entries)
 
--- a slot that is fit stays so at every command, and the fresh slot is fit
+-- the fresh slot is fit, a slot that is fit stays so at every command, and so every slot of a history is fit
 pub record FitIsKept : Type 0 where
   pub fresh : IsFit fresh_slot
-  pub kept : (slot : Slot) (moment : ℕ) (command : Command) → IsBuilt command → IsFit slot → IsFit (step slot moment command).1
+  pub kept : (slot : Slot) (moment : ℕ) (command : Command) → IsFit slot → IsFit (step slot moment command).1
+  pub replayed : (history : List Entry) (name : List ℕ) (slot : Slot) → slot_of name (replay history) ≡ Some slot → IsFit slot
+
+-- the numbers of a slot grow by at most one with each command, so that those of a history leave room for one more step
+pub record SmallIsKept : Type 0 where
+  pub fresh : IsWithin 0 fresh_slot
+  pub kept : (n : ℕ) (slot : Slot) (moment : ℕ) (command : Command) → IsWithin n slot → IsWithin (n + 1) (step slot moment command).1
+  pub replayed : (history : List Entry) (name : List ℕ) (slot : Slot) → slot_of name (replay history) ≡ Some slot → IsWithin (length history) slot
+  pub small : (n : ℕ) (slot : Slot) → n ≤ 2 ^ 61 → IsWithin n slot → IsSmall slot
 
 -- a version of a fit slot that is covered at the moment of a step, by the settings before the step, is kept by the step with its bytes
 abbrev pub CoveredIsKept : Type 0

@@ -7,13 +7,13 @@ use Rattle.gcs_meaning.specs.declared.listing.PageQuery.{PageQuery}
 use Rattle.gcs_meaning.specs.declared.listing.Unit as unit
 use Rattle.gcs_meaning.specs.declared.listing.View.{View}
 use Rattle.gcs_meaning.specs.declared.listing.View.TheVariants.{Live, Versions, Soft}
-use Rattle.gcs_meaning.specs.declared.reason.Reason.TheVariants.{NoBucket}
 use Rattle.gcs_meaning.specs.declared.settings.Settings.{Settings}
 use Rattle.gcs_meaning.specs.declared.version.Row.{Row}
 use Rattle.gcs_meaning.specs.declared.command.Answer.{Answer}
-use Rattle.gcs_meaning.specs.declared.command.Answer.TheVariants.{Refused, Page as Paged}
+use Rattle.gcs_meaning.specs.declared.command.Answer.TheVariants.{Page as Paged}
 use Rattle.gcs_meaning.specs.Order.{is_below, comes_before, unit_at, shown_rows}
-use Rattle.gcs_meaning.specs.Slot.{State, Slot}
+use Rattle.gcs_meaning.specs.Slot.{Slot}
+use Rattle.gcs_meaning.specs.Outcomes.{on_alive}
 use Rattle.gcs_meaning.specs.Texts.{begins, folded}
 
 -- the number of a version's item
@@ -44,6 +44,7 @@ is_under (Some end) name = is_below name end
 abbrev pub keeps : PageQuery → Row → Bool
 keeps q row = begins q.prefix row.name && (is_from q.start row.name && is_under q.end row.name)
 
+-- the units of a version that is folded at this prefix, if at one: where the prefix is its whole name it is an item too, if that is asked for
 abbrev pub units_from : PageQuery → Row → Option (List ℕ) → List unit.Unit
 units_from q row None = item_of q.view row ∷ []
 units_from q row (Some p) = prefix_unit p ∷ (if q.trailing && bytes_eq row.name p then item_of q.view row ∷ [] else [])
@@ -108,9 +109,5 @@ unfoldable pub page_of : Settings → PageQuery → List Row → Page
 page_of settings q rows = shown_page settings q (shown_rows q.view rows)
 
 -- the list of a bucket's versions, on an aged slot
-abbrev pub list_on : Option State → Slot → PageQuery → Answer × Slot
-list_on None slot query = (Refused NoBucket, slot)
-list_on (Some s) slot query = (Paged (page_of s.settings query s.rows), slot)
-
 unfoldable pub list_step : Slot → PageQuery → Answer × Slot
-list_step slot query = list_on slot.alive slot query
+list_step slot query = on_alive slot.alive slot (λ s. (Paged (page_of s.settings query s.rows), slot))

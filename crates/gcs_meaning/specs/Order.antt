@@ -19,9 +19,11 @@ is_below p x = is_lt (slice_cmp nat_cmp p x)
 abbrev pub unit_cmp : unit.Unit → unit.Unit → Ordering
 unit_cmp a b = ordering_then (slice_cmp nat_cmp a.text b.text) (nat_cmp a.number b.number)
 
+-- the first unit comes before the second
 abbrev pub comes_before : unit.Unit → unit.Unit → Bool
 comes_before a b = is_lt (unit_cmp a b)
 
+-- the unit of this text and number
 abbrev pub unit_at : List ℕ → ℕ → unit.Unit
 unit_at text number = record { text = text; number = number }
 

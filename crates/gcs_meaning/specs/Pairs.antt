@@ -24,6 +24,7 @@ pairs_size pairs = sum_by (λ p. length p.0 + length p.1) pairs
 abbrev pub most_shown : ℕ
 most_shown = 18446744073709551615
 
+-- the pairs with this value, by the order of the key and the first one: before it, in its place or behind it
 abbrev pub pair_by : Ordering → List ℕ → List ℕ → List ℕ × List ℕ → PairList → PairList → PairList
 pair_by Less key value p ps rest = (key, value) ∷ p ∷ ps
 pair_by Equal key value p ps rest = (key, value) ∷ ps

@@ -61,15 +61,23 @@ bucket_pre_of pre metageneration =
 abbrev pub bucket_pre_refusal : Pre → ℕ → Option Reason
 bucket_pre_refusal pre metageneration = condition_refusal (bucket_pre_of pre metageneration)
 
+-- how many microseconds a second has
+abbrev pub microseconds_per_second : ℕ
+microseconds_per_second = 1000000
+
 -- seconds in microseconds
 abbrev pub micros : ℕ → ℕ
-micros seconds = seconds * 1000000
+micros seconds = seconds * microseconds_per_second
+
+-- the moment at which a retention that began at `start` ends, and the version is free: the period is in seconds
+abbrev pub retained_until : ℕ → ℕ → ℕ
+retained_until start period = start + micros period
 
 -- a version whose retention began at `start`
 abbrev pub retention_cover : Option Retention → ℕ → ℕ → Cover
 retention_cover None start t = Free
 retention_cover (Some policy) start t =
-    let until = start + micros policy.period in
+    let until = retained_until start policy.period in
     if nat_lt t until then Retained until else Free
 
 -- a live or noncurrent version: the holds come before the retention
@@ -79,6 +87,7 @@ kept_cover settings facts t =
     else if facts.event_hold then EventBased
     else retention_cover settings.retention facts.retention_start t
 
+-- a version of this kind
 abbrev pub cover_of_kind : Kind → Settings → RowFacts → ℕ → Cover
 cover_of_kind Live settings facts t = kept_cover settings facts t
 cover_of_kind (IsNoncurrent at) settings facts t = kept_cover settings facts t

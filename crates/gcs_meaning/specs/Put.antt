@@ -1,10 +1,6 @@
 -- A new version of a name (Cloud Storage JSON API, "Objects: insert").
-use Rattle.std.specs.Prelude.{ℕ, ◌==◌, nat_lt, length, unwrap_or, Bool, true, false, not, ◌||◌, List, [], ◌∷◌, Option, Some, None, if◌then◌else◌}
+use Rattle.std.specs.Prelude.{ℕ, ◌==◌, length, unwrap_or, false, not, ◌||◌, List, [], ◌∷◌, Option, Some, None, if◌then◌else◌}
 use Rattle.std.specs.Str.{bytes_eq}
-use Rattle.std.specs.Ordering.{nat_cmp}
-use Rattle.std.specs.Cmp.Lexicographic.{slice_cmp}
-use Rattle.std.specs.declared.cmp.Ordering.{Ordering}
-use Rattle.std.specs.declared.cmp.Ordering.TheVariants.{Less, Equal, Greater}
 use Rattle.gcs_meaning.specs.declared.settings.Pre.{Pre}
 use Rattle.gcs_meaning.specs.declared.settings.Meta.{Meta}
 use Rattle.gcs_meaning.specs.declared.settings.Settings.{Settings}
@@ -13,9 +9,9 @@ use Rattle.gcs_meaning.specs.declared.version.Row.{Row}
 use Rattle.gcs_meaning.specs.declared.version.Expect.{Expect}
 use Rattle.gcs_meaning.specs.declared.reason.Digest.TheVariants.{Crc, Md5}
 use Rattle.gcs_meaning.specs.declared.reason.Reason.{Reason}
-use Rattle.gcs_meaning.specs.declared.reason.Reason.TheVariants.{HashDiffers, NoBucket}
+use Rattle.gcs_meaning.specs.declared.reason.Reason.TheVariants.{HashDiffers}
 use Rattle.gcs_meaning.specs.declared.command.Answer.{Answer}
-use Rattle.gcs_meaning.specs.declared.command.Answer.TheVariants.{Refused, Object}
+use Rattle.gcs_meaning.specs.declared.command.Answer.TheVariants.{Object}
 use Rattle.gcs_crc.specs.Crc.{crc}
 use Rattle.md5.specs.Md5.{md5}
 use Rattle.gcs_meaning.specs.Content.{Digested, bytes_in}
@@ -24,13 +20,16 @@ use Rattle.gcs_meaning.specs.Slot.{State, Slot}
 use Rattle.gcs_meaning.specs.Tests.{or_else, size_refusal}
 use Rattle.gcs_meaning.specs.Policy.{pre_refusal, retired_to}
 use Rattle.gcs_meaning.specs.Choosing.{live_row}
+use Rattle.gcs_meaning.specs.Outcomes.{on_alive, unless}
+use Rattle.gcs_meaning.specs.Order.{comes_before, place_of}
 use Rattle.gcs_meaning.specs.Retiring.{retired_rows, taken_refusal}
 
--- the numbers that preconditions are tested on: 0 and 0 where there is no version
+-- the generation that preconditions are tested on: that of the version, and 0 where there is none
 abbrev pub generation_of : Option Row → ℕ
 generation_of None = 0
 generation_of (Some row) = row.generation
 
+-- the metageneration of a version, and 0 where there is none
 abbrev pub metageneration_of : Option Row → ℕ
 metageneration_of None = 0
 metageneration_of (Some row) = row.metageneration
@@ -64,19 +63,10 @@ put_refusal settings t pre expect hashed live =
     (or_else (hash_refusal expect hashed)
     (size_refusal (length (bytes_in hashed)))))
 
-abbrev pub before_by : Ordering → ℕ → ℕ → Bool
-before_by Less m n = true
-before_by Equal m n = nat_lt m n
-before_by Greater m n = false
-
--- the order of rows: by name, then by generation
-abbrev pub is_before : Row → Row → Bool
-is_before a b = before_by (slice_cmp nat_cmp a.name b.name) a.generation b.generation
-
--- the rows with one more, at its place
+-- the rows with one more, at its place by name and generation
 abbrev pub with_row : Row → List Row → List Row
 with_row row [] = row ∷ []
-with_row row (first ∷ rest) = if is_before row first then row ∷ first ∷ rest else first ∷ with_row row rest
+with_row row (first ∷ rest) = if comes_before (place_of row) (place_of first) then row ∷ first ∷ rest else first ∷ with_row row rest
 
 -- what a version keeps of the metadata that it is put with
 abbrev pub kept_meta : Settings → Meta → Meta
@@ -109,16 +99,8 @@ put_state state t row =
 abbrev pub with_version : Slot → State → ℕ → Row → Answer × Slot
 with_version slot s t row = (Object row s.settings, record slot { alive = Some (put_state s t row); last_object = row.generation })
 
-abbrev pub put_tested : Option Reason → Slot → State → ℕ → Row → Answer × Slot
-put_tested (Some reason) slot s t row = (Refused reason, slot)
-put_tested None slot s t row = with_version slot s t row
-
 -- the put of a version, on a slot that is aged to t
-abbrev pub put_on : Option State → Slot → ℕ → List ℕ → Pre → Meta → Digested → Option ℕ → Expect → Answer × Slot
-put_on None slot t name pre meta hashed components expect = (Refused NoBucket, slot)
-put_on (Some s) slot t name pre meta hashed components expect =
-    put_tested (put_refusal s.settings t pre expect hashed (live_row name s.rows)) slot s t
-    (new_row s.settings t (next_generation t slot.last_object) name meta hashed components)
-
 unfoldable pub put_step : Slot → ℕ → List ℕ → Pre → Meta → Digested → Option ℕ → Expect → Answer × Slot
-put_step slot t name pre meta hashed components expect = put_on slot.alive slot t name pre meta hashed components expect
+put_step slot t name pre meta hashed components expect = on_alive slot.alive slot (λ s.
+    let row = new_row s.settings t (next_generation t slot.last_object) name meta hashed components in
+    unless (put_refusal s.settings t pre expect hashed (live_row name s.rows)) slot (with_version slot s t row))

@@ -61,17 +61,21 @@ key_name key.ContentRange = codes "Content-Range"
 key_name key.HeadContentType = codes "Content-Type"
 key_name key.HeadContentEncoding = codes "Content-Encoding"
 
+-- the name of a digest in a message
 abbrev pub digest_name : Digest → List ℕ
 digest_name (Crc value) = codes "crc32c"
 digest_name (Md5 bytes) = codes "md5Hash"
 
+-- the text of a digest in a message
 abbrev pub digest_text : Digest → List ℕ
 digest_text (Crc value) = crc_text_of value
 digest_text (Md5 bytes) = md5_text_of bytes
 
+-- the end of a message on two numbers
 abbrev pub wanted_found : ℕ → ℕ → List ℕ
 wanted_found wanted found = codes ": wanted " ++ (decimal wanted ++ (codes ", found " ++ decimal found))
 
+-- the status of a refusal's reply
 abbrev pub status_of : Reason → ℕ
 status_of NoPath = 404
 status_of NoMethod = 405
@@ -103,6 +107,7 @@ status_of (Beyond offset kept) = 400
 status_of (BadStep size) = 400
 status_of (TotalDiffers given known) = 400
 
+-- the word of a refusal's reply, its `reason`
 abbrev pub word_of : Reason → List ℕ
 word_of NoPath = codes "notFound"
 word_of NoMethod = codes "methodNotAllowed"
@@ -126,6 +131,7 @@ word_of (TooLarge size) = codes "uploadTooLarge"
 word_of (Unsatisfiable size) = codes "requestedRangeNotSatisfiable"
 word_of _ = codes "invalid"
 
+-- the message of a refusal's reply
 abbrev pub message_of : Reason → List ℕ
 message_of NoPath = codes "no such path"
 message_of NoMethod = codes "no such method"

@@ -9,12 +9,14 @@ use Rattle.gcs_meaning.specs.Moment.{effective_moment}
 use Rattle.gcs_meaning.specs.Slot.{Slot}
 use Rattle.gcs_meaning.specs.Aging.{aged}
 use Rattle.gcs_meaning.specs.Policy.{AreInLimits}
-use Rattle.gcs_meaning.specs.Buckets.{insert_step, bucket_get_step, bucket_delete_step}
-use Rattle.gcs_meaning.specs.BucketChanges.{bucket_change_step, AreSetInLimits}
+use Rattle.gcs_meaning.specs.Insertion.{insert_step}
+use Rattle.gcs_meaning.specs.BucketGet.{bucket_get_step}
+use Rattle.gcs_meaning.specs.BucketChange.{bucket_change_step, AreSetInLimits}
+use Rattle.gcs_meaning.specs.BucketDeletion.{bucket_delete_step}
 use Rattle.gcs_meaning.specs.Listing.{list_step}
-use Rattle.gcs_meaning.specs.Reads.{get_step}
-use Rattle.gcs_meaning.specs.ObjectChanges.{change_step}
-use Rattle.gcs_meaning.specs.Deletes.{delete_step}
+use Rattle.gcs_meaning.specs.Get.{get_step}
+use Rattle.gcs_meaning.specs.ObjectChange.{change_step}
+use Rattle.gcs_meaning.specs.ObjectDeletion.{delete_step}
 use Rattle.gcs_meaning.specs.Put.{put_step}
 
 -- a command on a slot that is aged to t

@@ -1,30 +1,25 @@
 //! What a change makes of the settings of a bucket and of the metadata of an object.
 ghost use Rattle.std.specs.Prelude.{◌≡◌, [], if◌then◌else◌, IfOk, OnOk};
-ghost use Rattle.gcs_meaning.specs.BucketChanges.{changed_period, changed_settings, policy_of, since_change};
+ghost use Rattle.gcs_meaning.specs.BucketChange.{changed_period, changed_settings, policy_of, since_change};
 ghost use Rattle.gcs_meaning.specs.Changes.{changed, changed_option, changed_pairs};
-ghost use Rattle.gcs_meaning.specs.ObjectChanges.{changed_meta};
+ghost use Rattle.gcs_meaning.specs.ObjectChange.{changed_meta};
 ghost use Rattle.gcs_meaning.specs.Pairs.{set_pairs};
 
 use crate::changes::{MetaChange, Set, SettingsChange};
 use crate::copying::Copied;
+use crate::limits::{DEFAULT_CLASS, DEFAULT_CONTENT_TYPE, DEFAULT_SOFT_SECONDS};
 use crate::list::List;
 use crate::pairs::Pairs;
 use crate::settings::{Meta, Retention, Settings};
 use crate::text::Text;
 use std::alloc::AllocError;
 
-const DEFAULT_CLASS: &str = "STANDARD";
-
-const DEFAULT_CONTENT_TYPE: &str = "application/octet-stream";
-
-const DEFAULT_SOFT_SECONDS: u64 = 604_800;
-
 impl SettingsChange {
     /// The settings once this change is made at `moment` (microseconds since 1970). A change that is `whole` sets each
     /// field that it doesn't name to its default. `Err`: no memory.
     ///
     /// Source: Cloud Storage JSON API, "Buckets: patch" and "Buckets: update".
-    #[tactic(auto, unfolding(crate::specs::BucketChanges::changed_settings))]
+    #[tactic(auto, unfolding(crate::specs::BucketChange::changed_settings))]
     pub fn applied(
         &self,
         settings: &Settings,
@@ -82,7 +77,7 @@ impl MetaChange {
     /// default. `Err`: no memory.
     ///
     /// Source: Cloud Storage JSON API, "Objects: patch" and "Objects: update".
-    #[tactic(auto, unfolding(crate::specs::ObjectChanges::changed_meta))]
+    #[tactic(auto, unfolding(crate::specs::ObjectChange::changed_meta))]
     pub fn applied(&self, meta: &Meta, whole: bool) -> Result<Meta, AllocError>
         ensures { IfOk result (λ made. made ≡ changed_meta whole self.now meta.now) }
     {

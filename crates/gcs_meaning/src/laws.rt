@@ -1,5 +1,5 @@
 //! Laws over every slot, history and command. Each is the contract of a function that does nothing.
-ghost use Rattle.gcs_meaning.specs.Laws.{AnswersFit, CoveredIsKept, FitIsKept, GenerationsRise};
+ghost use Rattle.gcs_meaning.specs.Laws.{AnswersFit, CoveredIsKept, FitIsKept, GenerationsRise, SmallIsKept};
 
 /// The versions that are made under a bucket's name have greater and greater generations, also over its deletion.
 pub fn law_generations()
@@ -10,14 +10,24 @@ pub fn law_generations()
 /// command, in the bucket or in a deleted one, with the same bytes. It may have become noncurrent, and its hold may have been
 /// released.
 ///
+/// The slot before the command is fit (`IsFit`), as `law_fit` says of every slot of a history. Of other slots it isn't so: a deleted
+/// bucket whose hard time lies before that of one of its versions takes a version along that is still covered.
+///
 /// Source: Cloud Storage, "Object holds", "Bucket Lock" and "Soft delete".
 pub fn law_covered()
     ensures { CoveredIsKept }
 {}
 
-/// A slot that is fit stays fit.
+/// A slot that is fit stays fit, and every slot of a history is fit: its counters are not behind what it has, its versions rise by
+/// name and generation with at most one live of a name, and a deleted bucket stays as long as each of its versions.
 pub fn law_fit()
     ensures { FitIsKept }
+{}
+
+/// The numbers of a slot, and of the deleted buckets of its name, grow by at most one with each command: so a slot of a history of
+/// at most 2^61 entries leaves room for one more step (`IsSmall`).
+pub fn law_small()
+    ensures { SmallIsKept }
 {}
 
 /// Each command gets an answer of its kind, and the answer at an entry is found by the entry's numbers.

@@ -9,6 +9,7 @@ mod copying;
 mod desk;
 mod hashed;
 mod laws;
+mod limits;
 mod list;
 mod listing;
 mod moment;
@@ -20,8 +21,6 @@ mod refusals;
 mod rewriting;
 mod settings;
 mod steps;
-#[cfg(test)]
-mod tests;
 mod text;
 mod uploading;
 mod version;
@@ -31,7 +30,11 @@ pub use command::{Answer, Command, Entry};
 pub use copying::Copied;
 pub use desk::{Desk, Unheld};
 pub use hashed::Hashed;
-pub use laws::{law_answers, law_covered, law_fit, law_generations};
+pub use laws::{law_answers, law_covered, law_fit, law_generations, law_small};
+pub use limits::{
+    DEFAULT_CLASS, DEFAULT_CONTENT_TYPE, DEFAULT_SOFT_SECONDS, LARGEST_CUSTOM, LARGEST_OBJECT,
+    MICROSECONDS_PER_SECOND, SHARDS,
+};
 pub use list::List;
 pub use listing::{Page, PageQuery, Unit, View};
 pub use moment::{LAST_READING, effective, shard_of};

@@ -2,6 +2,8 @@
 ghost use Rattle.std.specs.Prelude.{◌≡◌, ◌*◌, ◌≤◌, ◌<◌, ◌^◌, length};
 ghost use Rattle.gcs_meaning.specs.Moment.{effective_moment, shard_number};
 
+use crate::limits::SHARDS;
+
 /// The largest moment that a reading of the clock can give.
 pub const LAST_READING: u64 = 200_000_000_000_000_000;
 
@@ -18,7 +20,7 @@ pub fn shard_of(name: &[u8]) -> u8
 {
     let mut total = 0u16;
     for byte in name {
-        total = (total + u16::from(*byte)) % 16;
+        total = (total + u16::from(*byte)) % u16::from(SHARDS);
     }
     total as u8
 }

@@ -43,8 +43,10 @@ impl Pairs {
         self.entries.is_empty()
     }
 
+    /// The pairs, whose keys rise strictly in byte order.
     pub fn as_slice(&self) -> &[(Text, Text)]
-        ensures { result.now ≡ self.now }
+        ensures pairs { result.now ≡ self.now }
+        ensures rising { AreRising result.now }
     {
         self.entries.as_slice()
     }

@@ -6,14 +6,13 @@ use Rattle.gcs_meaning.specs.declared.settings.Pre.{Pre}
 use Rattle.gcs_meaning.specs.declared.settings.Retention.{Retention}
 use Rattle.gcs_meaning.specs.declared.settings.Settings.{Settings}
 use Rattle.gcs_meaning.specs.declared.reason.Reason.{Reason}
-use Rattle.gcs_meaning.specs.declared.reason.Reason.TheVariants.{NoBucket}
 use Rattle.gcs_meaning.specs.declared.command.Answer.{Answer}
-use Rattle.gcs_meaning.specs.declared.command.Answer.TheVariants.{Refused, Bucket}
+use Rattle.gcs_meaning.specs.declared.command.Answer.TheVariants.{Bucket}
 use Rattle.gcs_meaning.specs.Changes.{changed, changed_option, changed_pairs, IfSet}
-use Rattle.gcs_meaning.specs.Slot.{State, Slot}
+use Rattle.gcs_meaning.specs.Slot.{State, Slot, bucket_row, with_alive}
 use Rattle.gcs_meaning.specs.Tests.{or_else}
 use Rattle.gcs_meaning.specs.Policy.{bucket_pre_refusal, policy_refusal, IsPeriod, IsDuration}
-use Rattle.gcs_meaning.specs.Buckets.{bucket_row}
+use Rattle.gcs_meaning.specs.Outcomes.{on_alive, unless}
 
 -- the storage class of a bucket that names none
 abbrev pub default_class : List ℕ
@@ -65,19 +64,11 @@ bucket_change_refusal pre whole change s =
 abbrev pub bucket_change_state : State → ℕ → Settings → State
 bucket_change_state state t settings = record state { settings = settings; metageneration = state.metageneration + 1; updated = t }
 
-abbrev pub bucket_change_tested : Option Reason → Slot → List ℕ → State → Answer × Slot
-bucket_change_tested (Some reason) slot name s = (Refused reason, slot)
-bucket_change_tested None slot name s = (Bucket (bucket_row name s), record slot { alive = Some s })
-
 -- the change of a bucket's settings, on a slot that is aged to t
-abbrev pub bucket_change_on : Option State → Slot → ℕ → List ℕ → Pre → SettingsChange → Bool → Answer × Slot
-bucket_change_on None slot t name pre change whole = (Refused NoBucket, slot)
-bucket_change_on (Some s) slot t name pre change whole =
-    bucket_change_tested (bucket_change_refusal pre whole change s) slot name
-    (bucket_change_state s t (changed_settings t whole change s.settings))
-
 unfoldable pub bucket_change_step : Slot → ℕ → List ℕ → Pre → SettingsChange → Bool → Answer × Slot
-bucket_change_step slot t name pre change whole = bucket_change_on slot.alive slot t name pre change whole
+bucket_change_step slot t name pre change whole = on_alive slot.alive slot (λ s.
+    let after = bucket_change_state s t (changed_settings t whole change s.settings) in
+    unless (bucket_change_refusal pre whole change s) slot (Bucket (bucket_row name after), with_alive after slot))
 
 -- the numbers that a change sets are in their limits
 pub record AreSetInLimits (change : SettingsChange) : Type 0 where

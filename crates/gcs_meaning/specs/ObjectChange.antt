@@ -5,15 +5,16 @@ use Rattle.gcs_meaning.specs.declared.settings.Pre.{Pre}
 use Rattle.gcs_meaning.specs.declared.settings.Meta.{Meta}
 use Rattle.gcs_meaning.specs.declared.version.Row.{Row}
 use Rattle.gcs_meaning.specs.declared.reason.Reason.{Reason}
-use Rattle.gcs_meaning.specs.declared.reason.Reason.TheVariants.{NoBucket, NoObject, TimeBack, MetadataTooLong}
+use Rattle.gcs_meaning.specs.declared.reason.Reason.TheVariants.{TimeBack, MetadataTooLong}
 use Rattle.gcs_meaning.specs.declared.command.Answer.{Answer}
-use Rattle.gcs_meaning.specs.declared.command.Answer.TheVariants.{Refused, Object}
+use Rattle.gcs_meaning.specs.declared.command.Answer.TheVariants.{Object}
 use Rattle.gcs_meaning.specs.Pairs.{pairs_size, most_shown}
 use Rattle.gcs_meaning.specs.Changes.{changed, changed_option, changed_pairs}
-use Rattle.gcs_meaning.specs.Slot.{State, Slot}
+use Rattle.gcs_meaning.specs.Slot.{State, Slot, with_alive}
 use Rattle.gcs_meaning.specs.Tests.{or_else}
 use Rattle.gcs_meaning.specs.Policy.{pre_refusal}
 use Rattle.gcs_meaning.specs.Choosing.{is_chosen, chosen_row}
+use Rattle.gcs_meaning.specs.Outcomes.{on_alive, on_found, unless}
 use Rattle.gcs_meaning.specs.Retiring.{change_first, has_event_hold}
 
 -- the content type of an object that names none
@@ -44,6 +45,7 @@ time_refusal (Some had) (Some asked) = if nat_lt asked had then Some (TimeBack h
 abbrev pub largest_custom : ℕ
 largest_custom = 8192
 
+-- custom metadata of so many bytes is more than a version may have
 abbrev pub custom_refusal : ℕ → Option Reason
 custom_refusal size = if nat_le size largest_custom then None else Some (MetadataTooLong (min size most_shown))
 
@@ -72,25 +74,9 @@ unfoldable pub change_state : State → List ℕ → Option ℕ → Row → Stat
 change_state state name generation row =
     record state { rows = change_first (is_chosen name generation) (λ had. row ∷ []) state.rows }
 
-abbrev pub change_tested : Option Reason → Slot → State → List ℕ → Option ℕ → Row → Answer × Slot
-change_tested (Some reason) slot s name generation row = (Refused reason, slot)
-change_tested None slot s name generation row = (Object row s.settings, record slot { alive = Some (change_state s name generation row) })
-
--- a version that would have this metadata
-abbrev pub change_to : Slot → State → ℕ → List ℕ → Option ℕ → Pre → Row → Meta → Answer × Slot
-change_to slot s t name generation pre row meta =
-    change_tested (change_refusal pre row meta) slot s name generation (changed_row t meta row)
-
-abbrev pub change_found : Option Row → Slot → State → ℕ → List ℕ → Option ℕ → Pre → MetaChange → Bool → Answer × Slot
-change_found None slot s t name generation pre change whole = (Refused NoObject, slot)
-change_found (Some row) slot s t name generation pre change whole =
-    change_to slot s t name generation pre row (changed_meta whole change row.meta)
-
 -- the change of a version, on a slot that is aged to t
-abbrev pub change_on : Option State → Slot → ℕ → List ℕ → Option ℕ → Pre → MetaChange → Bool → Answer × Slot
-change_on None slot t name generation pre change whole = (Refused NoBucket, slot)
-change_on (Some s) slot t name generation pre change whole =
-    change_found (chosen_row name generation s.rows) slot s t name generation pre change whole
-
 unfoldable pub change_step : Slot → ℕ → List ℕ → Option ℕ → Pre → MetaChange → Bool → Answer × Slot
-change_step slot t name generation pre change whole = change_on slot.alive slot t name generation pre change whole
+change_step slot t name generation pre change whole = on_alive slot.alive slot (λ s. on_found (chosen_row name generation s.rows) slot (λ row.
+    let meta = changed_meta whole change row.meta in
+    let after = changed_row t meta row in
+    unless (change_refusal pre row meta) slot (Object after s.settings, with_alive (change_state s name generation after) slot)))

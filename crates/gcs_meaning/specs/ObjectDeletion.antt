@@ -1,16 +1,16 @@
 -- The deletion of a version (Cloud Storage JSON API, "Objects: delete").
-use Rattle.std.specs.Prelude.{ℕ, Bool, is_some, List, Option, Some, None}
+use Rattle.std.specs.Prelude.{ℕ, Bool, is_some, List, Option}
 use Rattle.gcs_meaning.specs.declared.settings.Pre.{Pre}
 use Rattle.gcs_meaning.specs.declared.settings.Settings.{Settings}
 use Rattle.gcs_meaning.specs.declared.version.Row.{Row}
 use Rattle.gcs_meaning.specs.declared.reason.Reason.{Reason}
-use Rattle.gcs_meaning.specs.declared.reason.Reason.TheVariants.{NoBucket, NoObject}
 use Rattle.gcs_meaning.specs.declared.command.Answer.{Answer}
-use Rattle.gcs_meaning.specs.declared.command.Answer.TheVariants.{Refused, Empty}
-use Rattle.gcs_meaning.specs.Slot.{State, Slot}
+use Rattle.gcs_meaning.specs.declared.command.Answer.TheVariants.{Empty}
+use Rattle.gcs_meaning.specs.Slot.{State, Slot, with_alive}
 use Rattle.gcs_meaning.specs.Tests.{or_else}
 use Rattle.gcs_meaning.specs.Policy.{pre_refusal, retired_to}
 use Rattle.gcs_meaning.specs.Choosing.{chosen_row}
+use Rattle.gcs_meaning.specs.Outcomes.{on_alive, on_found, unless}
 use Rattle.gcs_meaning.specs.Retiring.{retired_rows, taken_refusal}
 
 -- the first test of a deletion that fails, on the chosen version
@@ -23,19 +23,7 @@ unfoldable pub delete_state : State → ℕ → List ℕ → Option ℕ → Stat
 delete_state state t name generation =
     record state { rows = retired_rows (retired_to state.settings t (is_some generation)) t name generation state.rows }
 
-abbrev pub delete_tested : Option Reason → Slot → State → ℕ → List ℕ → Option ℕ → Answer × Slot
-delete_tested (Some reason) slot s t name generation = (Refused reason, slot)
-delete_tested None slot s t name generation = (Empty, record slot { alive = Some (delete_state s t name generation) })
-
-abbrev pub delete_found : Option Row → Slot → State → ℕ → List ℕ → Option ℕ → Pre → Answer × Slot
-delete_found None slot s t name generation pre = (Refused NoObject, slot)
-delete_found (Some row) slot s t name generation pre =
-    delete_tested (delete_refusal s.settings t (is_some generation) pre row) slot s t name generation
-
 -- the deletion of a version, on a slot that is aged to t
-abbrev pub delete_on : Option State → Slot → ℕ → List ℕ → Option ℕ → Pre → Answer × Slot
-delete_on None slot t name generation pre = (Refused NoBucket, slot)
-delete_on (Some s) slot t name generation pre = delete_found (chosen_row name generation s.rows) slot s t name generation pre
-
 unfoldable pub delete_step : Slot → ℕ → List ℕ → Option ℕ → Pre → Answer × Slot
-delete_step slot t name generation pre = delete_on slot.alive slot t name generation pre
+delete_step slot t name generation pre = on_alive slot.alive slot (λ s. on_found (chosen_row name generation s.rows) slot (λ row.
+    unless (delete_refusal s.settings t (is_some generation) pre row) slot (Empty, with_alive (delete_state s t name generation) slot)))
