@@ -1,5 +1,6 @@
 -- The names that buckets and objects may have (Google's Cloud Storage, "Bucket names" and "Object names")
-use Rattle.std.specs.Prelude.{◌≡◌, ◌≢◌, ℕ, ◌-◌, ◌≤◌, List, length, take, codes, slice_index, Bool, true, ◌&&◌, ◌||◌, ◌==◌, nat_le, All, IsUtf8}
+use Rattle.std.specs.Prelude.{◌≡◌, ◌≢◌, ◌↔◌, ℕ, ◌-◌, ◌≤◌, List, length, take, codes, slice_index, bytes_eq, Bool, true, not, ◌&&◌, ◌||◌, ◌==◌, nat_le, All, IsUtf8}
+use Rattle.std.specs.List.{list_all}
 
 -- a lower-case letter or a digit
 abbrev pub is_letter_or_digit : ℕ → Bool
@@ -17,6 +18,17 @@ pub record IsBucketName (name : List ℕ) : Type 0 where
   pub first : is_letter_or_digit (slice_index name 0) ≡ true
   pub last : is_letter_or_digit (slice_index name (length name - 1)) ≡ true
   pub kept_back : take 4 name ≢ codes "goog"
+
+-- the same, as a test
+unfoldable pub is_bucket_name : List ℕ → Bool
+is_bucket_name name =
+    nat_le 3 (length name) && nat_le (length name) 63 && list_all is_bucket_byte name
+    && is_letter_or_digit (slice_index name 0) && is_letter_or_digit (slice_index name (length name - 1))
+    && not (bytes_eq (take 4 name) (codes "goog"))
+
+-- the test passes exactly where a bucket may have the name
+abbrev pub TestIsTheRule : Type 0
+TestIsTheRule = (name : List ℕ) → (is_bucket_name name ≡ true) ↔ IsBucketName name
 
 -- LF or CR
 abbrev pub is_line_byte : ℕ → Bool

@@ -3,8 +3,6 @@
 
 mod names;
 mod segments;
-#[cfg(test)]
-mod tests;
 
-pub use names::{BadName, bucket_name, object_name};
+pub use names::{BadName, bucket_name, law_bucket_name, object_name};
 pub use segments::segment;

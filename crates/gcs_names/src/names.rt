@@ -1,6 +1,6 @@
 //! Which bytes name a bucket, and which an object.
 ghost use Rattle.std.specs.Prelude.{◌≡◌, ◌↔◌, ◌⊎◌, take, codes, IfOk, Err, IsTrue};
-ghost use Rattle.gcs_names.specs.Name.{is_letter_or_digit, is_bucket_byte, IsBucketName, IsObjectName};
+ghost use Rattle.gcs_names.specs.Name.{is_letter_or_digit, is_bucket_byte, IsBucketName, IsObjectName, TestIsTheRule};
 
 use gcs_meaning::{BucketName, Name, Text};
 use std::alloc::{AllocError, Global};
@@ -23,6 +23,11 @@ impl From<AllocError> for BadName {
         BadName::NoMemory
     }
 }
+
+/// The test of a bucket's name, of which definitions make use, is the rule for such names.
+pub fn law_bucket_name()
+    ensures { TestIsTheRule }
+{}
 
 /// The bucket's name with these bytes: 3 to 63 lower-case letters, digits, `-` and `_`, with a letter or a
 /// digit at both ends, that do not begin with `goog`.

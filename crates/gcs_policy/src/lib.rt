@@ -9,8 +9,6 @@ mod cover;
 mod lock;
 mod preconditions;
 mod retirement;
-#[cfg(test)]
-mod tests;
 
 pub use cover::covered;
 pub use lock::may_change_policy;
