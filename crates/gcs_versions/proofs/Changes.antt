@@ -9,7 +9,7 @@ use Rattle.gcs_meaning.specs.Put.{with_row}
 use Rattle.gcs_meaning.specs.Retiring.{change_first}
 use Rattle.gcs_meaning.proofs.Listed.{all-weaker}
 use Rattle.gcs_versions.specs.Rows.{is_version, map_at, IsPlace}
-use Rattle.gcs_versions.proofs.Orders.{apart, before_is, before_other, not_back, place_version, tied}
+use Rattle.gcs_versions.proofs.Orders.{apart, before_other, not_back, place_version, tied}
 use Rattle.gcs_versions.proofs.Finding.{first_if, none_found, version_at}
 
 -- ---- a new row
@@ -21,13 +21,13 @@ placed_from : (row : Row) (rows : List Row) (i : ℕ) → i ≤ length rows
 placed_from row [] zero within before from absent = refl
 placed_from row [] (suc i) within before from absent = absurd (omega arith)
 placed_from row (x ∷ xs) zero within before from absent =
-    ap (λ t. if t then row ∷ x ∷ xs else x ∷ with_row row xs) (before_is row x ∙ by (comes_before (place_of row) (place_of x)) refl)
+    ap (λ t. if t then row ∷ x ∷ xs else x ∷ with_row row xs) (by (comes_before (place_of row) (place_of x)) refl)
   where
     by : (b : Bool) → comes_before (place_of row) (place_of x) ≡ b → b ≡ true
     by true e = refl
     by false e = absurd (apart (place_version row.name row.generation x (tied (place_of x) (place_of row) from.0 e)) absent.0)
 placed_from row (x ∷ xs) (suc i) within before from absent =
-    ap (λ t. if t then row ∷ x ∷ xs else x ∷ with_row row xs) (before_is row x ∙ not_back (place_of x) (place_of row) before.0)
+    ap (λ t. if t then row ∷ x ∷ xs else x ∷ with_row row xs) (not_back (place_of x) (place_of row) before.0)
     ∙ ap (λ rest. x ∷ rest) (placed_from row xs i (omega arith) before.1 from absent.1)
 
 pub placed_at : (row : Row) (rows : List Row) (i : ℕ) → IsPlace (place_of row) rows i → find (is_version row.name row.generation) rows ≡ None → with_row row rows ≡ insert rows i row

@@ -1,5 +1,5 @@
 -- The version that a request names is the one of its name and generation, or the live one of the name.
-use Rattle.std.proofs.Common.{◌≡◌, ◌≢◌, ◌<◌, ◌∙◌, sym, ap, ap₂, refl, subst, ℕ, Bool, true, false, List, [], ◌∷◌, ◌++◌, Option, Some, None, arith}
+use Rattle.std.proofs.Common.{◌≡◌, ◌<◌, ◌∙◌, sym, ap, ap₂, refl, subst, ℕ, Bool, true, false, List, [], ◌∷◌, ◌++◌, Option, Some, None, arith}
 use Rattle.std.specs.Prelude.{not, ◌&&◌, ◌==◌, if◌then◌else◌}
 use Rattle.std.specs.Str.{bytes_eq}
 use Rattle.std.specs.List.{AllByRecursion, find}
@@ -90,14 +90,6 @@ chosen_version name generation rows rise =
     find_same (is_chosen name (Some generation)) (λ row. is_readable row.kind && is_version name generation row)
     (λ row. bracketed (is_readable row.kind) (row.generation == generation) (bytes_eq name row.name)) rows
     ∙ tested_version (λ row. is_readable row.kind) name generation rows rise
-
--- the soft-deleted version of a generation
-pub soft_version : (name : List ℕ) (generation : ℕ) (rows : List Row) → Rise rows
-    → find (is_soft_chosen name (Some generation)) rows ≡ first_if (λ row. not (is_readable row.kind)) (find (is_version name generation) rows)
-soft_version name generation rows rise =
-    find_same (is_soft_chosen name (Some generation)) (λ row. not (is_readable row.kind) && is_version name generation row)
-    (λ row. bracketed (not (is_readable row.kind)) (row.generation == generation) (bytes_eq name row.name)) rows
-    ∙ tested_version (λ row. not (is_readable row.kind)) name generation rows rise
 
 -- a row that is found is the version of its name and generation
 pub found_version : (p : Row → Bool) (name : List ℕ) (generation : ℕ) (row : Row) (rows : List Row) → Rise rows → find p rows ≡ Some row → is_version name generation row ≡ true

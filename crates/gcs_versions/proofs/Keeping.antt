@@ -12,12 +12,12 @@ use Rattle.gcs_meaning.specs.declared.policy.Retired.TheVariants.{Noncurrent as 
 use Rattle.gcs_meaning.specs.Aging.{aged_rows, kind_stays}
 use Rattle.gcs_meaning.specs.Choosing.{is_live, is_live_of, live_row}
 use Rattle.gcs_meaning.specs.Order.{comes_before, place_of, AreSingle, AreVersions, IsNumbered, Rise}
-use Rattle.gcs_meaning.specs.Put.{is_before, with_row}
+use Rattle.gcs_meaning.specs.Put.{with_row}
 use Rattle.gcs_meaning.specs.Retiring.{change_first, retired_row}
 use Rattle.gcs_meaning.proofs.Listed.{all-change_first, all-filter, all-weaker, all-with_row}
 use Rattle.gcs_versions.specs.Kept.{Kept, IsReadyToPut, IsReadyToRetire}
 use Rattle.gcs_versions.specs.Rows.{changed_version, is_version}
-use Rattle.gcs_versions.proofs.Orders.{apart, before_before, before_is, place_version, same_text, bytes_eq_from, tied}
+use Rattle.gcs_versions.proofs.Orders.{apart, before_before, place_version, same_text, bytes_eq_from, tied}
 use Rattle.gcs_versions.proofs.Finding.{finds_none, none_found}
 
 -- ---- filtered rows
@@ -129,15 +129,15 @@ meta_kept meta start t p rows kept = changed_kept p (λ row. changed_version met
 -- ---- one row more
 placed_rise : (row : Row) (rows : List Row) → AllByRecursion (λ other. is_version row.name row.generation other ≡ false) rows → Rise rows → Rise (with_row row rows)
 placed_rise row [] absent rise = (tt, tt)
-placed_rise row (x ∷ xs) absent rise = by (is_before row x) refl (placed_rise row xs absent.1 rise.1)
+placed_rise row (x ∷ xs) absent rise = by (comes_before (place_of row) (place_of x)) refl (placed_rise row xs absent.1 rise.1)
   where
     behind : (b : Bool) → comes_before (place_of x) (place_of row) ≡ b → comes_before (place_of row) (place_of x) ≡ false → b ≡ true
     behind true e f = refl
     behind false e f = absurd (apart (place_version row.name row.generation x (tied (place_of x) (place_of row) e f)) absent.0)
 
-    by : (b : Bool) → is_before row x ≡ b → Rise (with_row row xs) → Rise (if b then row ∷ x ∷ xs else x ∷ with_row row xs)
+    by : (b : Bool) → comes_before (place_of row) (place_of x) ≡ b → Rise (with_row row xs) → Rise (if b then row ∷ x ∷ xs else x ∷ with_row row xs)
     by true e rest =
-        let first = sym (before_is row x) ∙ e in (
+        let first = e in (
           (
             first,
             all-weaker (λ later. comes_before (place_of x) (place_of later) ≡ true) (λ later. comes_before (place_of row) (place_of later) ≡ true)
@@ -146,7 +146,7 @@ placed_rise row (x ∷ xs) absent rise = by (is_before row x) refl (placed_rise 
           rise,
         )
     by false e rest =
-        let first = behind (comes_before (place_of x) (place_of row)) refl (sym (before_is row x) ∙ e) in
+        let first = behind (comes_before (place_of x) (place_of row)) refl e in
         (all-with_row (λ later. comes_before (place_of x) (place_of later) ≡ true) row xs first rise.0, rest)
 
 -- a row of another name hides no live version
@@ -156,7 +156,7 @@ none_placed name row rows other none =
 
 placed_single : (row : Row) (rows : List Row) → live_row row.name rows ≡ None → AreSingle rows → AreSingle (with_row row rows)
 placed_single row [] none single = (λ live. refl, tt)
-placed_single row (x ∷ xs) none single = by (is_before row x) (placed_single row xs (none_later (is_live_of row.name x) refl none) single.1)
+placed_single row (x ∷ xs) none single = by (comes_before (place_of row) (place_of x)) (placed_single row xs (none_later (is_live_of row.name x) refl none) single.1)
   where
     none_later : (b : Bool) → is_live_of row.name x ≡ b → (if b then Some x else live_row row.name xs) ≡ None → live_row row.name xs ≡ None
     none_later true e h = absurd (cc)

@@ -16,7 +16,6 @@ use Rattle.std.proofs.lemmas.Map.Text.{is_eq-slice_cmp}
 use Rattle.gcs_meaning.specs.declared.listing.Unit as unit
 use Rattle.gcs_meaning.specs.declared.version.Row.{Row}
 use Rattle.gcs_meaning.specs.Order.{comes_before, place_of, unit_at, unit_cmp}
-use Rattle.gcs_meaning.specs.Put.{before_by, is_before}
 use Rattle.gcs_versions.specs.Rows.{is_version}
 
 -- two answers that exclude each other
@@ -113,15 +112,6 @@ behind_other name generation row behind = by (is_version name generation row) re
     by : (b : Bool) → is_version name generation row ≡ b → b ≡ false
     by false e = refl
     by true e = absurd (apart behind (ap (comes_before (unit_at name generation)) (version_place name generation row e) ∙ before_self (unit_at name generation)))
-
--- the order in which a row is put is that of the places
-pub before_is : (a b : Row) → is_before a b ≡ comes_before (place_of a) (place_of b)
-before_is a b = by (slice_cmp nat_cmp a.name b.name) a.generation b.generation
-  where
-    by : (o : Ordering) (m n : ℕ) → before_by o m n ≡ is_lt (ordering_then o (nat_cmp m n))
-    by Less m n = refl
-    by Equal m n = grind (arith, nat_tests)
-    by Greater m n = refl
 
 -- a row before the name is of another name; so is one behind it that isn't of the name
 pub name_not_before : (name : List ℕ) (row : Row) → comes_before (place_of row) (unit_at name 0) ≡ true → bytes_eq name row.name ≡ false

@@ -11,6 +11,7 @@ pub record Kept : Type 0 where
 unfoldable pub IsReadyToPut : List ℕ → Kept → Type 0
 IsReadyToPut name kept = length kept.rows < kept.capacity
 
--- a version of the name can be retired without taking memory
+-- a version of the name can be retired without taking memory: of rows in one vector always, so callers that pass the word on
+-- don't depend on that
 unfoldable pub IsReadyToRetire : List ℕ → Kept → Type 0
 IsReadyToRetire name kept = Unit {0}

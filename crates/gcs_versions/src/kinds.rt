@@ -1,7 +1,7 @@
 //! What the state of a version says of it.
 ghost use Rattle.std.specs.Prelude.{◌≡◌};
 ghost use Rattle.gcs_meaning.specs.Aging.{kind_stays};
-ghost use Rattle.gcs_meaning.specs.Buckets.{hard_of};
+ghost use Rattle.gcs_meaning.specs.BucketDeletion.{hard_of};
 ghost use Rattle.gcs_meaning.specs.Choosing.{is_live, is_readable};
 ghost use Rattle.gcs_meaning.specs.Order.{is_shown};
 

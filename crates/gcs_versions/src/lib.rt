@@ -4,8 +4,6 @@
 mod kinds;
 mod places;
 mod rows;
-#[cfg(test)]
-mod tests;
 mod versions;
 
 pub use gcs_meaning::Steps;

@@ -3,7 +3,7 @@ ghost use Rattle.std.specs.Prelude.{◌≡◌, ◌≢◌, ◌<◌, ◌+◌, ◌^
 ghost use Rattle.std.specs.List.{find, list_any};
 ghost use Rattle.std.specs.Option.{ForSome, option_copied};
 ghost use Rattle.gcs_meaning.specs.Aging.{aged_rows};
-ghost use Rattle.gcs_meaning.specs.Buckets.{latest_hard};
+ghost use Rattle.gcs_meaning.specs.BucketDeletion.{latest_hard};
 ghost use Rattle.gcs_meaning.specs.Choosing.{chosen_row, is_live, is_readable, live_row};
 ghost use Rattle.gcs_meaning.specs.Order.{is_at_least, shown_rows, unit_at, AreVersions, IsNumbered};
 ghost use Rattle.gcs_meaning.specs.Put.{with_row};
@@ -95,11 +95,14 @@ impl Versions {
         find_shown(&self.rows, view, bound, number)
     }
 
-    /// Takes the memory of one put and one retirement of that name. `Err`: no memory.
+    /// Takes the memory of one put and one retirement of that name. What was prepared stays prepared, also where there is
+    /// no more memory, which is `Err`.
     #[tactic(auto, unfolding(crate::specs::Kept::IsReadyToPut, crate::specs::Kept::IsReadyToRetire))]
     pub fn prepare(&mut self, name: &Name) -> Result<(), AllocError>
         ensures rows { self.new.rows ≡ self.old.rows }
         ensures ready { OnOk result (IsReadyToPut name.now self.new × IsReadyToRetire name.now self.new) }
+        ensures put { (other : List ℕ) → IsReadyToPut other self.old → IsReadyToPut other self.new }
+        ensures retire { (other : List ℕ) → IsReadyToRetire other self.old → IsReadyToRetire other self.new }
     {
         self.rows.reserve(1)
     }

@@ -1,6 +1,6 @@
 use Rattle.std.proofs.Common.{◌≡◌, drop}
 use Rattle.std.specs.Prelude.{max}
-use Rattle.gcs_meaning.specs.Buckets.{latest_hard}
+use Rattle.gcs_meaning.specs.BucketDeletion.{latest_hard}
 use Rattle.gcs_versions.proofs.versions.Versions.latest_hard.Given as goal
 
 -- the latest of those that were seen and of those that are left
