@@ -126,9 +126,6 @@ after_number c = record { due = due; after = after }
             let low = sym (same_text c.text row.name c.number row.generation same) ∙ e in
             absurd (apart (same_text row.name c.text row.generation (c.number + 1) (sym same) ∙ number same low) out)
 
-pub for_soft : (c b : unit.Unit) → IsAfterBound Versions c b → IsAfterBound Soft c b
-for_soft c b h = record { due = h.due; after = h.after }
-
 pub bound_low : (q : PageQuery) (cur : Option unit.Unit) (low : List ℕ) → IsLow q low → ((row : Row) → is_below row.name low ≡ false → is_after cur (item_of q.view row) ≡ true) → IsBound q cur (unit_at low 0)
 bound_low q cur low is after = record {
   due = λ row n news.

@@ -113,11 +113,6 @@ after_more : (cur : Option unit.Unit) (x y : unit.Unit) → is_after cur x ≡ t
 after_more None x y a b = refl
 after_more (Some c) x y a b = lt_trans unit_total c x y a b
 
--- what is not after comes before all that is
-not_after : (cur : Option unit.Unit) (x u : unit.Unit) → is_after cur x ≡ false → is_after cur u ≡ true → comes_before x u ≡ true
-not_after None x u a b = absurd (true≢false a)
-not_after (Some c) x u a b = le_lt unit_total x c u a b
-
 -- the least unit that is left comes first
 pub step : (cur : Option unit.Unit) (u : unit.Unit) (us : List unit.Unit) → Rising us → Among u us → is_after cur u ≡ true
     → AllByRecursion (λ v. is_after cur v ≡ true → comes_before v u ≡ false) us

@@ -192,12 +192,3 @@ module _ (q : PageQuery) (rows : List Row) (view : IsView q.view rows) (cur : Op
         subst (IsPast q rows cur) (sym there) (subst (λ (p : List ℕ). IsPast q rows cur (prefix_unit (past p))) same (is_past q cur b rows s view.places view.numbers k h got.0 got.2)),
         (k, here.1, here.0, keep, is.0),
       )
-
--- past a version that is done, a second look isn't done again
-pub not_past_again : {X : Type 0} (q : PageQuery) (rows : List Row) (cur : Option unit.Unit) (b c d : unit.Unit) → IsLooked q rows cur b (Past c) → IsLooked q rows cur c (Past d) → X
-not_past_again q rows cur b c d first second =
-    let row : Row = second.1.0 in
-    let got = first.0.news row second.1.1 second.1.2 second.1.3 in
-    let some : find (is_after cur) (units_of q row) ≡ Some got.0 = got.1 in
-    let none : find (is_after cur) (units_of q row) ≡ None = second.1.4 in
-    absurd (cc)

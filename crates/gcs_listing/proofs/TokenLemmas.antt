@@ -6,6 +6,7 @@ use Rattle.std.specs.Result.{result_ok}
 use Rattle.std.specs.Str.{bytes_eq, is_utf8, IsAscii}
 use Rattle.std.proofs.lemmas.Bool.{and_from, and_parts, le-leb, leb-true, not-true, not_from_false, true≢false}
 use Rattle.std.proofs.lemmas.Bool.Decides.{nat_tests}
+use Rattle.std.proofs.lemmas.List.Sums.{list_all-from_AllPass}
 use Rattle.std.proofs.lemmas.Fmt.{decimal_by_steps, parse-decimal, IsAscii-decimal}
 use Rattle.std.specs.Str.Parse.{ParsesUnsigned}
 use Rattle.std.proofs.lemmas.Str.{IsUtf8-append, IsUtf8-from_ascii, IsUtf8-from_is_utf8, is_utf8-from_IsUtf8}
@@ -16,8 +17,9 @@ use Rattle.base64.proofs.EngineFacts.{decode_of-encode_of}
 use Rattle.gcs_meaning.specs.declared.listing.Unit as unit
 use Rattle.gcs_meaning.specs.Order.{unit_at}
 use Rattle.gcs_meaning.specs.Tokens.{bucket_token, page_token}
-use Rattle.gcs_names.specs.Name.{is_bucket_byte, is_letter_or_digit, IsBucketName}
-use Rattle.gcs_listing.specs.Tokens.{bucket_of_token, has_token, is_bucket_name, name_if, unit_from, unit_if, unit_of_token, HasToken, TokensAreExact}
+use Rattle.gcs_names.specs.Name.{is_bucket_byte, is_bucket_name, IsBucketName}
+use Rattle.gcs_names.proofs.BucketNames.{is_bucket_name-iff}
+use Rattle.gcs_listing.specs.Tokens.{bucket_of_token, has_token, name_if, unit_from, unit_if, unit_of_token, HasToken, TokensAreExact}
 use Rattle.gcs_listing.proofs.ByteLemmas.{are_low, AreLow}
 use Rattle.gcs_listing.proofs.SeekLemmas.{bytes_eq_from}
 use Rattle.gcs_listing.proofs.UnitLemmas.{bytes_same}
@@ -214,51 +216,12 @@ names_bytes : (name : List ℕ) → list_all is_bucket_byte name ≡ true → Al
 names_bytes [] h = tt
 names_bytes (b ∷ name) h = let both = and_parts (is_bucket_byte b) (list_all is_bucket_byte name) h in (byte_small b both.0, names_bytes name both.1)
 
-list_all_from : (name : List ℕ) → All (λ b. is_bucket_byte b ≡ true) name → list_all is_bucket_byte name ≡ true
-list_all_from [] h = refl
-list_all_from (b ∷ name) h =
-    and_from (is_bucket_byte b) (list_all is_bucket_byte name) (h 0 b (omega arith)) (list_all_from name (λ k d below. h (suc k) d (omega (arith, below))))
-
-all_from : (name : List ℕ) → list_all is_bucket_byte name ≡ true → All (λ b. is_bucket_byte b ≡ true) name
-all_from [] h k d below = absurd (omega (arith, below))
-all_from (b ∷ name) h zero d below = (and_parts (is_bucket_byte b) (list_all is_bucket_byte name) h).0
-all_from (b ∷ name) h (suc k) d below = all_from name (and_parts (is_bucket_byte b) (list_all is_bucket_byte name) h).1 k d (omega (arith, below))
-
-pub name_yes : (name : List ℕ) → IsBucketName name → is_bucket_name name ≡ true
-name_yes name is =
-    and_from (nat_le 3 (length name)) _ (le-leb 3 (length name) is.least)
-    (and_from (nat_le (length name) 63) _ (le-leb (length name) 63 is.most)
-    (and_from (list_all is_bucket_byte name) _ (list_all_from name is.bytes)
-    (and_from (is_letter_or_digit (slice_index name 0)) _ is.first
-    (and_from (is_letter_or_digit (slice_index name (length name - 1))) (not (bytes_eq (take 4 name) (codes "goog"))) is.last
-    (not_from_false (bytes_eq (take 4 name) (codes "goog")) (by (bytes_eq (take 4 name) (codes "goog")) refl))))))
-  where
-    by : (t : Bool) → bytes_eq (take 4 name) (codes "goog") ≡ t → t ≡ false
-    by false e = refl
-    by true e = absurd (is.kept_back (bytes_same (take 4 name) (codes "goog") e))
-
-pub name_from : (name : List ℕ) → is_bucket_name name ≡ true → IsBucketName name
-name_from name h =
-    let a = and_parts (nat_le 3 (length name)) _ h in
-    let b = and_parts (nat_le (length name) 63) _ a.1 in
-    let d = and_parts (list_all is_bucket_byte name) _ b.1 in
-    let e = and_parts (is_letter_or_digit (slice_index name 0)) _ d.1 in
-    let f = and_parts (is_letter_or_digit (slice_index name (length name - 1))) (not (bytes_eq (take 4 name) (codes "goog"))) e.1 in
-    record {
-      least = leb-true 3 (length name) a.0;
-      most = leb-true (length name) 63 b.0;
-      bytes = all_from name d.0;
-      first = e.0;
-      last = f.0;
-      kept_back = λ same. true≢false (sym (bytes_eq_from (take 4 name) (codes "goog") same) ∙ not-true (bytes_eq (take 4 name) (codes "goog")) f.1);
-    }
-
 pub bucket_read : (name : List ℕ) → IsBucketName name → bucket_of_token (bucket_token name) ≡ Some name
 unfolding bucket_of_token decoded_of
 bucket_read name is =
-    let bytes : IsBytes name = bytes_from name (names_bytes name (list_all_from name is.bytes)) in
+    let bytes : IsBytes name = bytes_from name (names_bytes name (list_all-from_AllPass is_bucket_byte name is.bytes)) in
     ap (λ r. option_and_then (name_if (bucket_token name)) (result_ok r)) (decode_of-encode_of url_safe_no_pad name refl bytes)
-    ∙ ap (λ (b : Bool). if b then Some name else None) (and_from (is_bucket_name name) (bytes_eq (bucket_token name) (bucket_token name)) (name_yes name is) (bytes_eq_from (bucket_token name) (bucket_token name) refl))
+    ∙ ap (λ (b : Bool). if b then Some name else None) (and_from (is_bucket_name name) (bytes_eq (bucket_token name) (bucket_token name)) ((is_bucket_name-iff name).1 is) (bytes_eq_from (bucket_token name) (bucket_token name) refl))
 
 pub bucket_only : (token name : List ℕ) → bucket_of_token token ≡ Some name → (bucket_token name ≡ token) × IsBucketName name
 unfolding bucket_of_token
@@ -269,7 +232,7 @@ bucket_only token name h = by (decoded_of url_safe_no_pad token) h
     by (Some v) e =
         let got = chosen (is_bucket_name v && bytes_eq (bucket_token v) token) v name e in
         let both = and_parts (is_bucket_name v) (bytes_eq (bucket_token v) token) got.0 in
-        subst (λ w. (bucket_token w ≡ token) × IsBucketName w) got.1 (bytes_same (bucket_token v) token both.1, name_from v both.0)
+        subst (λ w. (bucket_token w ≡ token) × IsBucketName w) got.1 (bytes_same (bucket_token v) token both.1, (is_bucket_name-iff v).0 both.0)
 
 pub bucket_is : (token name : List ℕ) → IsBucketName name → bucket_token name ≡ token → bucket_of_token token ≡ Some name
 bucket_is token name is own = subst (λ t. bucket_of_token t ≡ Some name) own (bucket_read name is)
@@ -284,7 +247,7 @@ unfolding bucket_of_token decoded_of
 bucket_no_name token bytes is none = ap (λ r. option_and_then (name_if token) (result_ok r)) is ∙ by (is_bucket_name bytes) refl
   where
     by : (t : Bool) → is_bucket_name bytes ≡ t → name_if token bytes ≡ None
-    by true e = absurd (none (name_from bytes e))
+    by true e = absurd (none ((is_bucket_name-iff bytes).0 e))
     by false e = ap (λ (s : Bool). if s && bytes_eq (bucket_token bytes) token then Some bytes else None) e
 
 pub tokens_are_exact : TokensAreExact

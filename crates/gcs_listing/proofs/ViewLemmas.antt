@@ -1,5 +1,5 @@
 -- The versions that a view shows at a moment rise by their places and by their items.
-use Rattle.std.proofs.Common.{◌≡◌, ◌≤◌, ◌+◌, ℕ, ◌∙◌, arith, sym, ap, refl, List, [], ◌∷◌, Some, None, Option}
+use Rattle.std.proofs.Common.{◌≡◌, ◌≤◌, ◌+◌, ℕ, ◌∙◌, arith, sym, ap, ap₂, refl, List, [], ◌∷◌, Some, None, Option}
 use Rattle.std.specs.Prelude.{Bool, true, false, if◌then◌else◌}
 use mathlib.Core.Logic.{inl, inr}
 use Rattle.std.specs.List.{filter, find, AllByRecursion}
@@ -11,7 +11,7 @@ use Rattle.gcs_meaning.specs.declared.listing.View.TheVariants.{Live, Versions, 
 use Rattle.gcs_meaning.specs.declared.version.Row.{Row}
 use Rattle.gcs_meaning.specs.Aging.{aged_rows, kind_stays}
 use Rattle.gcs_meaning.specs.Choosing.{is_live, is_live_of}
-use Rattle.gcs_meaning.specs.Order.{comes_before, is_at_least, is_shown, place_of, shown_rows, AreSingle, AreVersions, IsNumbered, Rise}
+use Rattle.gcs_meaning.specs.Order.{comes_before, is_at_least, is_shown, place_of, shown_rows, unit_at, AreSingle, AreVersions, IsNumbered, Rise}
 use Rattle.gcs_meaning.specs.Listing.{item_of}
 use Rattle.gcs_listing.specs.declared.looking.Found.{Found}
 use Rattle.gcs_listing.specs.Looking.{passed_by}
@@ -24,6 +24,11 @@ use Rattle.gcs_listing.proofs.LookLemmas.{all_of}
 use Rattle.gcs_listing.proofs.SeekLemmas.{bytes_eq_from}
 use Rattle.gcs_listing.proofs.BoundLemmas.{split}
 use Rattle.gcs_listing.proofs.PassLemmas.{all_filter, before_next, find_none_stays, find_stays, passed_gone, passed_le, passed_more, seek_on}
+
+-- what is sought from a bound is sought from its text and its number
+pub sought : (view : View) (rows : List Row) (from : unit.Unit) (text : List ℕ) (number : ℕ) → text ≡ from.text → number ≡ from.number
+    → find (is_at_least from) (shown_rows view rows) ≡ find (is_at_least (unit_at text number)) (shown_rows view rows)
+sought view rows from text number same_text same_number = ap₂ (λ t n. find (is_at_least (unit_at t n)) (shown_rows view rows)) (sym same_text) (sym same_number)
 
 rises_from : (rows : List Row) → Rise rows → RisesBy place_of rows
 rises_from [] h = tt

@@ -1,13 +1,12 @@
 -- What the tokens of pages name: what they are read as, where that has the token and no other text has.
-use Rattle.std.specs.Prelude.{◌≡◌, ◌≤◌, ◌<◌, ◌^◌, ◌==◌, ◌*◌, ◌+◌, ◌-◌, ◌&&◌, not, nat_le, nat_lt, ℕ, Bool, List, [], ◌∷◌, length, take, codes, slice_index, Option, None, Some, if◌then◌else◌, option_and_then, IsUtf8}
-use Rattle.std.specs.List.{list_all}
+use Rattle.std.specs.Prelude.{◌≡◌, ◌≤◌, ◌<◌, ◌^◌, ◌==◌, ◌*◌, ◌+◌, ◌-◌, ◌&&◌, nat_le, nat_lt, ℕ, Bool, List, [], ◌∷◌, length, Option, None, Some, if◌then◌else◌, option_and_then, IsUtf8}
 use Rattle.std.specs.Str.{bytes_eq, is_utf8}
 use Rattle.base64.specs.Engines.{url_safe_no_pad}
 use Rattle.base64.specs.GeneralPurpose.{decoded_of}
 use Rattle.gcs_meaning.specs.declared.listing.Unit as unit
 use Rattle.gcs_meaning.specs.Order.{unit_at}
 use Rattle.gcs_meaning.specs.Tokens.{bucket_token, page_token}
-use Rattle.gcs_names.specs.Name.{is_bucket_byte, is_letter_or_digit, IsBucketName}
+use Rattle.gcs_names.specs.Name.{is_bucket_name, IsBucketName}
 
 -- a unit that a token can name
 pub record HasToken (u : unit.Unit) : Type 0 where
@@ -16,6 +15,7 @@ pub record HasToken (u : unit.Unit) : Type 0 where
   pub text : IsUtf8 u.text
   pub number : u.number < 2 ^ 64
 
+-- the same, as a test
 abbrev pub has_token : unit.Unit → Bool
 has_token u = nat_le 1 (length u.text) && (nat_le (length u.text) 1024 && (is_utf8 u.text && nat_lt u.number (2 ^ 64)))
 
@@ -32,15 +32,7 @@ unit_if token u = if has_token u && bytes_eq (page_token u) token then Some u el
 unfoldable pub unit_of_token : List ℕ → Option unit.Unit
 unit_of_token token = option_and_then (unit_if token) (option_and_then (unit_from 0) (decoded_of url_safe_no_pad token))
 
--- a bucket may have this name
-abbrev pub is_bucket_name : List ℕ → Bool
-is_bucket_name name =
-    nat_le 3 (length name)
-    && (nat_le (length name) 63
-    && (list_all is_bucket_byte name
-    && (is_letter_or_digit (slice_index name 0)
-    && (is_letter_or_digit (slice_index name (length name - 1)) && not (bytes_eq (take 4 name) (codes "goog"))))))
-
+-- the name, where a bucket may have it and this is the token
 abbrev pub name_if : List ℕ → List ℕ → Option (List ℕ)
 name_if token name = if is_bucket_name name && bytes_eq (bucket_token name) token then Some name else None
 

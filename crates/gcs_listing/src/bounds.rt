@@ -4,7 +4,7 @@ ghost use Rattle.gcs_meaning.specs.declared.listing.View.TheVariants.{Live, Vers
 ghost use Rattle.gcs_meaning.specs.Order.{is_below, unit_at};
 ghost use Rattle.gcs_listing.specs.Seeking.{past, IsAfterBound, IsBound, IsLow};
 
-use crate::folding::is_lower;
+use crate::folding::is_below;
 use gcs_meaning::{PageQuery, Unit, View};
 use std::alloc::{AllocError, Global};
 use std::marker::Model;
@@ -91,7 +91,7 @@ fn higher<'a>(text: &'a [u8], other: &'a [u8]) -> &'a [u8]
     ensures other { is_below result.now other.now ≡ false }
     ensures least { (x : List ℕ) → is_below x text.now ≡ false → is_below x other.now ≡ false → is_below x result.now ≡ false }
 {
-    if is_lower(text, other) { other } else { text }
+    if is_below(text, other) { other } else { text }
 }
 
 // Where the versions begin whose items come after a unit.
@@ -139,7 +139,7 @@ pub(crate) fn bound_after(
     ensures { IfOk result (λ b. IsBound query.now (Some last.now) b) }
 {
     let low = lowest(query);
-    if is_lower(last.text.as_bytes(), low) {
+    if is_below(last.text.as_bytes(), low) {
         Bound::new(alloc, low, 0)
     } else {
         after_unit(alloc, query.view, last)

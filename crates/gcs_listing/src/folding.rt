@@ -8,8 +8,8 @@ ghost use Rattle.gcs_meaning.specs.Texts.{begins, folded};
 use gcs_meaning::{PageQuery, Row, Text, Unit, View};
 use std::cmp::Ordering;
 
-// Whether one text is below another in byte order.
-pub(crate) fn is_lower(text: &[u8], other: &[u8]) -> bool
+/// Whether one text comes before another in byte order.
+pub fn is_below(text: &[u8], other: &[u8]) -> bool
     ensures { result ≡ is_below text.now other.now }
 {
     match text.cmp(other) {
@@ -59,7 +59,7 @@ fn is_started(start: &Option<Text>, name: &[u8]) -> bool
     ensures { result ≡ is_from start.now name.now }
 {
     match start {
-        Some(start) => !is_lower(name, start.as_bytes()),
+        Some(start) => !is_below(name, start.as_bytes()),
         None => true,
     }
 }
@@ -68,7 +68,7 @@ fn is_not_ended(end: &Option<Text>, name: &[u8]) -> bool
     ensures { result ≡ is_under end.now name.now }
 {
     match end {
-        Some(end) => is_lower(name, end.as_bytes()),
+        Some(end) => is_below(name, end.as_bytes()),
         None => true,
     }
 }

@@ -6,10 +6,9 @@ mod folding;
 mod looking;
 mod paging;
 mod seeking;
-#[cfg(test)]
-mod tests;
 mod tokens;
 
+pub use folding::is_below;
 pub use paging::page;
 pub use tokens::{
     TokenFault, law_tokens, read_bucket_token, read_token, write_bucket_token, write_token,

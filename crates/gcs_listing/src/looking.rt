@@ -1,10 +1,10 @@
 //! The next unit of a listing, by two looks at the versions at most.
-ghost use Rattle.std.specs.Prelude.{◌≡◌, ◌≤◌, ◌+◌, [], ◌∷◌, true, false, IfOk, Some, None};
+ghost use Rattle.std.specs.Prelude.{◌≡◌, [], ◌∷◌, true, false, IfOk, Some, None};
 ghost use Rattle.std.specs.List.{find};
 ghost use Rattle.gcs_meaning.specs.Listing.{is_after, is_prefix, keeps, units_of};
 ghost use Rattle.gcs_meaning.specs.Order.{unit_at, AreVersions};
 ghost use Rattle.gcs_listing.specs.Looking.{passed_by, passed_in, IsLooked, IsLookedAt, IsMadeOf, IsNext, IsPastFold};
-ghost use Rattle.gcs_listing.specs.Seeking.{listed_rows, passed_count, IsBoundAmong};
+ghost use Rattle.gcs_listing.specs.Seeking.{listed_rows, passed_count, AreAtMost, IsBoundAmong};
 
 use crate::bounds::{Bound, bound_after, past_text};
 use crate::folding::{fold, is_kept, is_later, item_number};
@@ -155,9 +155,13 @@ fn look_from<L: Ledger>(
     requires from { IsBoundAmong query.now (listed_rows query.now.view moment versions.now.rows) last.now from }
     ensures looked { IfOk result
         (λ look. IsLooked query.now (listed_rows query.now.view moment versions.now.rows) last.now from look) }
-    ensures cost { IfOk result
-        (λ look. steps.new + passed_count query.now.view moment versions.now.rows from
-        ≤ steps.old + 1 + passed_in query.now.view moment versions.now.rows look) }
+    ensures cost { IfOk result (λ look. AreAtMost 1
+        (record {
+          before = steps.old;
+          after = steps.new;
+          gone_at_start = passed_count query.now.view moment versions.now.rows from;
+          gone_at_end = passed_in query.now.view moment versions.now.rows look;
+        })) }
 {
     match first_listed(alloc, versions, query.view, moment, from, steps)? {
         Some(row) => {
@@ -185,9 +189,13 @@ pub(crate) fn next_unit<L: Ledger>(
     requires from { IsBoundAmong query.now (listed_rows query.now.view moment versions.now.rows) last.now from }
     ensures next { IfOk result
         (λ found. IsNext query.now (listed_rows query.now.view moment versions.now.rows) last.now found) }
-    ensures cost { IfOk result
-        (λ found. steps.new + passed_count query.now.view moment versions.now.rows from
-        ≤ steps.old + 2 + passed_by query.now.view moment versions.now.rows found) }
+    ensures cost { IfOk result (λ found. AreAtMost 2
+        (record {
+          before = steps.old;
+          after = steps.new;
+          gone_at_start = passed_count query.now.view moment versions.now.rows from;
+          gone_at_end = passed_by query.now.view moment versions.now.rows found;
+        })) }
 {
     match look_from(alloc, versions, query, moment, last, from, steps)? {
         Look::End => Ok(None),

@@ -5,7 +5,7 @@ ghost use Rattle.gcs_meaning.specs.Listing.{page_of};
 ghost use Rattle.gcs_meaning.specs.Order.{AreVersions};
 ghost use Rattle.gcs_listing.specs.Looking.{IsNext};
 ghost use Rattle.gcs_listing.specs.Paging.{IsPaged, IsMore, option_list, texts_of};
-ghost use Rattle.gcs_listing.specs.Seeking.{gone_count, listed_rows, passed_count, IsBoundAmong};
+ghost use Rattle.gcs_listing.specs.Seeking.{gone_count, listed_rows, passed_count, AreAtMost, IsBoundAmong};
 
 use crate::bounds::{Bound, first_bound};
 use crate::looking::{Found, next_unit};
@@ -132,9 +132,13 @@ fn has_more<L: Ledger>(
     requires from { IsBoundAmong query.now (listed_rows query.now.view moment versions.now.rows) last.now from }
     ensures more { IfOk result
         (λ more. IsMore query.now (listed_rows query.now.view moment versions.now.rows) last.now more) }
-    ensures cost { IfOk result
-        (λ _. steps.new + passed_count query.now.view moment versions.now.rows from
-        ≤ steps.old + 2 + gone_count query.now.view moment versions.now.rows) }
+    ensures cost { IfOk result (λ _. AreAtMost 2
+        (record {
+          before = steps.old;
+          after = steps.new;
+          gone_at_start = passed_count query.now.view moment versions.now.rows from;
+          gone_at_end = gone_count query.now.view moment versions.now.rows;
+        })) }
 {
     let found = next_unit(alloc, versions, query, moment, last, from, steps)?;
     let more = found.is_some();

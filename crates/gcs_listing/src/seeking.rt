@@ -1,10 +1,10 @@
 //! The first version of a listing from a place on.
-ghost use Rattle.std.specs.Prelude.{◌≡◌, ◌≤◌, ◌+◌, IfOk};
+ghost use Rattle.std.specs.Prelude.{◌≡◌, IfOk};
 ghost use Rattle.std.specs.List.{find};
 ghost use Rattle.std.specs.Option.{option_copied};
 ghost use Rattle.gcs_meaning.specs.Order.{is_at_least, AreVersions};
 ghost use Rattle.gcs_listing.specs.Looking.{passed_at};
-ghost use Rattle.gcs_listing.specs.Seeking.{listed_rows, passed_count};
+ghost use Rattle.gcs_listing.specs.Seeking.{listed_rows, passed_count, AreAtMost};
 
 use crate::bounds::{Bound, after_version};
 use gcs_meaning::{Row, Steps, View};
@@ -25,9 +25,13 @@ pub(crate) fn first_listed<'a, L: Ledger>(
     requires known { AreVersions versions.now.rows }
     ensures found { IfOk result
         (λ row. option_copied row ≡ find (is_at_least bound) (listed_rows view moment versions.now.rows)) }
-    ensures cost { IfOk result
-        (λ row. steps.new + passed_count view moment versions.now.rows bound
-        ≤ steps.old + 1 + passed_at view moment versions.now.rows (option_copied row)) }
+    ensures cost { IfOk result (λ row. AreAtMost 1
+        (record {
+          before = steps.old;
+          after = steps.new;
+          gone_at_start = passed_count view moment versions.now.rows bound;
+          gone_at_end = passed_at view moment versions.now.rows (option_copied row);
+        })) }
 {
     let mut from = bound;
     loop {

@@ -1,4 +1,4 @@
-use Rattle.std.proofs.Common.{◌≡◌, ◌≤◌, ◌+◌, ◌∙◌, ap₂, sym, subst, arith, Some, None}
+use Rattle.std.proofs.Common.{◌≡◌, ◌≤◌, ◌+◌, ◌∙◌, sym, subst, arith, Some, None}
 use Rattle.std.specs.Prelude.{false}
 use Rattle.std.specs.List.{find}
 use Rattle.gcs_meaning.specs.declared.listing.View.TheVariants.{Versions}
@@ -6,7 +6,7 @@ use Rattle.gcs_meaning.specs.Aging.{kind_stays}
 use Rattle.gcs_meaning.specs.Order.{is_at_least, place_of, shown_rows, unit_at}
 use Rattle.gcs_listing.specs.Seeking.{passed_count, IsAfterBound}
 use Rattle.gcs_listing.proofs.PassLemmas.{passed_gone}
-use Rattle.gcs_listing.proofs.ViewLemmas.{listed_found, listed_none, listed_on, passed_found, passed_on}
+use Rattle.gcs_listing.proofs.ViewLemmas.{listed_found, listed_none, listed_on, passed_found, passed_on, sought}
 use Rattle.gcs_listing.proofs.seeking.first_listed.Goals as goal
 
 pub returns-in_default-clause-found : goal.returns-in_default-clause-found
@@ -14,7 +14,7 @@ returns-in_default-clause-found g c =
     let rows = c.args.versions.now.rows in
     let from = c.loop-row.from in
     let none : find (is_at_least from) (shown_rows c.args.view rows) ≡ None =
-    ap₂ (λ t n. find (is_at_least (unit_at t n)) (shown_rows c.args.view rows)) (sym c.text.ensures) (sym c.number.ensures) ∙ sym c.in_default.ensures.found in
+    sought c.args.view rows from c.text.result.now c.number.result c.text.ensures c.number.ensures ∙ sym c.in_default.ensures.found in
     sym (listed_none c.args.view c.args.moment rows from none) ∙ c.loop-row.invariant.same
 
 pub returns-in_default-clause-cost : goal.returns-in_default-clause-cost
@@ -27,7 +27,7 @@ returns-then-stays-clause-found g c =
     let from = c.loop-row.from in
     let row = c.in-Some.row.now in
     let found : find (is_at_least from) (shown_rows c.args.view rows) ≡ Some row =
-    ap₂ (λ t n. find (is_at_least (unit_at t n)) (shown_rows c.args.view rows)) (sym c.text.ensures) (sym c.number.ensures) ∙ sym c.in-Some.ensures.found in
+    sought c.args.view rows from c.text.result.now c.number.result c.text.ensures c.number.ensures ∙ sym c.in-Some.ensures.found in
     sym (listed_found c.args.view c.args.moment rows from row found (sym c.stays.ensures ∙ c.if-stays.true)) ∙ c.loop-row.invariant.same
 
 pub returns-then-stays-clause-cost : goal.returns-then-stays-clause-cost
@@ -36,7 +36,7 @@ returns-then-stays-clause-cost g c =
     let from = c.loop-row.from in
     let row = c.in-Some.row.now in
     let found : find (is_at_least from) (shown_rows c.args.view rows) ≡ Some row =
-    ap₂ (λ t n. find (is_at_least (unit_at t n)) (shown_rows c.args.view rows)) (sym c.text.ensures) (sym c.number.ensures) ∙ sym c.in-Some.ensures.found in
+    sought c.args.view rows from c.text.result.now c.number.result c.text.ensures c.number.ensures ∙ sym c.in-Some.ensures.found in
     omega (arith, c.in-Some.ensures.cost, c.loop-row.invariant.cost, passed_found c.args.view c.args.moment rows from row found)
 
 pub loop-row-smaller : goal.loop-row-smaller
@@ -46,7 +46,7 @@ loop-row-smaller g c =
     let row = c.in-Some.row.now in
     let next = c.in_ok-from.from in
     let found : find (is_at_least from) (shown_rows c.args.view rows) ≡ Some row =
-    ap₂ (λ t n. find (is_at_least (unit_at t n)) (shown_rows c.args.view rows)) (sym c.text.ensures) (sym c.number.ensures) ∙ sym c.in-Some.ensures.found in
+    sought c.args.view rows from c.text.result.now c.number.result c.text.ensures c.number.ensures ∙ sym c.in-Some.ensures.found in
     let gone : kind_stays c.args.moment row.kind ≡ false = sym c.stays.ensures ∙ c.if-stays.false in
     let after : IsAfterBound Versions (place_of row) next = subst (λ t. IsAfterBound Versions (unit_at t row.generation) next) c.as_bytes.ensures c.in_ok-from.ensures in
     let more : passed_count c.args.view c.args.moment rows from + 1 ≤ passed_count c.args.view c.args.moment rows next = passed_on c.args.view c.args.moment rows from next row found gone after in
@@ -59,7 +59,7 @@ loop-row-preserved g c =
     let row = c.in-Some.row.now in
     let next = c.in_ok-from.from in
     let found : find (is_at_least from) (shown_rows c.args.view rows) ≡ Some row =
-    ap₂ (λ t n. find (is_at_least (unit_at t n)) (shown_rows c.args.view rows)) (sym c.text.ensures) (sym c.number.ensures) ∙ sym c.in-Some.ensures.found in
+    sought c.args.view rows from c.text.result.now c.number.result c.text.ensures c.number.ensures ∙ sym c.in-Some.ensures.found in
     let gone : kind_stays c.args.moment row.kind ≡ false = sym c.stays.ensures ∙ c.if-stays.false in
     let after : IsAfterBound Versions (place_of row) next = subst (λ t. IsAfterBound Versions (unit_at t row.generation) next) c.as_bytes.ensures c.in_ok-from.ensures in
     let more : passed_count c.args.view c.args.moment rows from + 1 ≤ passed_count c.args.view c.args.moment rows next = passed_on c.args.view c.args.moment rows from next row found gone after in
