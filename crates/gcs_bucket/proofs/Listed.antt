@@ -1,13 +1,12 @@
 -- The list of a shard's buckets, slot by slot.
-use Rattle.std.proofs.Common.{◌≡◌, ℕ, zero, suc, Bool, Option, Some, None, option_map, true, false, List, [], ◌∷◌, ◌++◌, length, take, refl, ap, sym, ◌∙◌, ◌≤◌, ◌<◌, arith, append-nil, if◌then◌else◌}
+use Rattle.std.proofs.Common.{◌≡◌, ℕ, zero, suc, Bool, Option, Some, None, option_map, true, false, List, [], ◌∷◌, ◌++◌, length, take, refl, ap, sym, ◌∙◌, ◌≤◌, arith, append-nil, if◌then◌else◌}
 use Rattle.std.specs.List.{filter, flat_map}
 use Rattle.std.proofs.lemmas.List.Concat.{flat_map-cons}
 use Rattle.gcs_meaning.specs.declared.command.Command.{Command}
 use Rattle.gcs_meaning.specs.declared.command.Command.TheVariants.{BucketInsert, BucketList, BucketGet, BucketChange, BucketDelete, BucketLock, BucketRestore, List as Listing, Get, Change, Delete, Put, Compose, Restore, Start, Append, Finish, Cancel}
 use Rattle.gcs_meaning.specs.declared.version.BucketRow.{BucketRow}
 use Rattle.gcs_meaning.specs.History.{Slots, is_listed, listed_buckets, shown_bucket, bucket_of}
-use Rattle.gcs_meaning.specs.Buckets.{bucket_row}
-use Rattle.gcs_meaning.specs.Slot.{State, Slot}
+use Rattle.gcs_meaning.specs.Slot.{State, Slot, bucket_row}
 use Rattle.gcs_meaning.specs.Step.{IsBuilt, IsOnSlot}
 use Rattle.gcs_bucket.specs.Shard.{all_listed, listed_of}
 

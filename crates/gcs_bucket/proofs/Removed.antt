@@ -1,6 +1,6 @@
 -- The version that a request names is retired by its generation, and a put finds no live one.
-use Rattle.std.proofs.Common.{◌≡◌, ◌≢◌, ◌≤◌, ◌<◌, ◌^◌, ℕ, Bool, true, false, List, [], ◌∷◌, ◌++◌, Option, Some, None, refl, ap, ap₂, sym, subst, ◌∙◌}
-use Rattle.std.specs.Prelude.{is_some, if◌then◌else◌}
+use Rattle.std.proofs.Common.{◌≡◌, ◌≢◌, ◌≤◌, ◌<◌, ◌^◌, ℕ, true, false, List, [], ◌∷◌, Option, Some, None, refl, ap, ap₂, sym, subst, ◌∙◌}
+use Rattle.std.specs.Prelude.{is_some}
 use Rattle.std.specs.List.{AllByRecursion, find}
 use Rattle.std.specs.Option.{option_map}
 use Rattle.gcs_meaning.specs.declared.policy.Retired.{Retired}
@@ -10,8 +10,8 @@ use Rattle.gcs_meaning.specs.declared.settings.Settings.{Settings}
 use Rattle.gcs_meaning.specs.declared.version.Row.{Row}
 use Rattle.gcs_meaning.specs.Aging.{aged_rows, aged_state, kind_stays}
 use Rattle.gcs_meaning.specs.Choosing.{asked_row, chosen_row, is_chosen, live_row}
-use Rattle.gcs_meaning.specs.Deletes.{delete_state}
-use Rattle.gcs_meaning.specs.ObjectChanges.{change_state, changed_row}
+use Rattle.gcs_meaning.specs.ObjectDeletion.{delete_state}
+use Rattle.gcs_meaning.specs.ObjectChange.{change_state, changed_row}
 use Rattle.gcs_meaning.specs.Order.{AreSingle, Rise}
 use Rattle.gcs_meaning.specs.Policy.{retired_to}
 use Rattle.gcs_meaning.specs.Retiring.{change_first, retired_row}
@@ -21,8 +21,8 @@ use Rattle.gcs_meaning.proofs.Listed.{all-change_first}
 use Rattle.gcs_versions.specs.Rows.{changed_version, is_version}
 use Rattle.gcs_versions.proofs.Choices.{chosen_again, chosen_change, chosen_found, fresh_absent, live_retired, same_change, unchanged}
 use Rattle.gcs_versions.proofs.Keeping.{filtered_rise}
-use Rattle.gcs_bucket.specs.declared.versions.Changed.{Changed}
-use Rattle.gcs_bucket.specs.Prepared.{with_changed, IsBase, IsChangeOf, IsInPlace, MakesChange}
+use Rattle.gcs_bucket.specs.declared.object_change.Changed.{Changed}
+use Rattle.gcs_bucket.specs.ObjectChange.{with_changed, IsBase, IsChangeOf, IsInPlace, MakesChange}
 
 -- a row of that generation was found
 row_of : (found : Option Row) (generation : ℕ) → option_map (λ row. row.generation) found ≡ Some generation → (row : Row) × (found ≡ Some row) × (row.generation ≡ generation)
@@ -100,19 +100,6 @@ replaced made name asked t before state is h =
     subst (λ (s : State). with_changed s name made.shown ≡ record s { rows = change_first (is_chosen name asked) (λ had. made.shown ∷ []) s.rows }) (sym is)
     (ap (λ rows. record (aged_state t before) { rows = rows })
     (same_change (is_version name made.shown.generation) (is_chosen name asked) (λ had. made.shown ∷ []) h.row (aged_rows t before.rows) h.found (chosen_row-aged t name asked before.rows ∙ h.chosen)))
-
--- two changes that make the same of the first that passes
-pub same_becomes : {X : Type 0} (p : X → Bool) (becomes makes : X → List X) (x : X) (xs : List X) → find p xs ≡ Some x → becomes x ≡ makes x → change_first p becomes xs ≡ change_first p makes xs
-same_becomes p becomes makes x [] is same = refl
-same_becomes p becomes makes x (y ∷ ys) is same = by (p y) is (λ later. same_becomes p becomes makes x ys later same)
-  where
-    inside : Some y ≡ Some x → y ≡ x
-    inside s = cc
-
-    by : (b : Bool) → (if b then Some y else find p ys) ≡ Some x → (find p ys ≡ Some x → change_first p becomes ys ≡ change_first p makes ys)
-        → (if b then becomes y ++ ys else y ∷ change_first p becomes ys) ≡ (if b then makes y ++ ys else y ∷ change_first p makes ys)
-    by true first deeper = ap (λ made. made ++ ys) (ap becomes (inside first) ∙ same ∙ ap makes (sym (inside first)))
-    by false later deeper = ap (λ r. y ∷ r) (deeper later)
 
 -- what was made of a row is its base
 pub base_of : (made : Changed) (settings : Settings) (t : ℕ) (meta : Meta) (row : Row) → MakesChange made settings (changed_row t meta row) → row.metageneration ≤ 2 ^ 62 → IsBase made t row

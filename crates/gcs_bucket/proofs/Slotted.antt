@@ -7,10 +7,9 @@ use Rattle.std.specs.Ordering.{nat_cmp}
 use Rattle.std.specs.Cmp.Lexicographic.{slice_cmp}
 use Rattle.std.specs.declared.cmp.Ordering.TheVariants.{Equal}
 use Rattle.gcs_meaning.specs.declared.command.Entry.{Entry}
-use Rattle.gcs_meaning.specs.Slot.{State, Slot, fresh_slot}
-use Rattle.gcs_meaning.specs.Bounds.{AreWithin, IsChangedAtMost, IsSmall}
-use Rattle.gcs_meaning.proofs.Listed.{all-weaker, some-weaker}
-use Rattle.gcs_meaning.proofs.Bounded.{replay_within}
+use Rattle.gcs_meaning.specs.Slot.{Slot, fresh_slot}
+use Rattle.gcs_meaning.specs.Bounds.{AreWithin, IsSmall}
+use Rattle.gcs_meaning.proofs.Bounded.{replay_within, small_within}
 use Rattle.gcs_meaning.proofs.Replays.{replay-push}
 use Rattle.std.proofs.lemmas.Option.{slice_get-get_or}
 use Rattle.gcs_meaning.specs.History.{Slots, slot_of, with_slot, bucket_of, set_slot, first_step, shard_step, replay}
@@ -69,24 +68,10 @@ found_step name slots place moment command answer new named found stepped =
     let at = slice_get-get_or slots place ([], fresh_slot) found.within in
     rw (named, found.slot_is _ at, stepped.stepped _ at, found.set_is stepped.slot, ← stepped.new_is) refl
 
-changed_more : (m n : ℕ) → m ≤ n → (s : State) → IsChangedAtMost m s → IsChangedAtMost n s
-changed_more m n above s h = record {
-  bucket = omega (arith, h.bucket);
-  rows = all-weaker (λ row. row.metageneration ≤ m) (λ row. row.metageneration ≤ n) (λ row few. omega (arith, few)) s.rows h.rows;
-}
-
 -- the slots of a history below 2^59 entries have room for one more step
 pub small_from_within : (n : ℕ) (slots : Slots) → n ≤ 2 ^ 59 → AreWithin n slots → AreSmall slots
 small_from_within n [] few h = tt
-small_from_within n (p ∷ ps) few h = (
-  record {
-    moment = omega (arith, h.0.moment);
-    object = omega (arith, h.0.object);
-    bucket = omega (arith, h.0.bucket);
-    changes = some-weaker (IsChangedAtMost n) (IsChangedAtMost (2 ^ 62)) (changed_more n (2 ^ 62) (omega (arith, few))) p.1.alive h.0.changes;
-  },
-  small_from_within n ps few h.1,
-)
+small_from_within n (p ∷ ps) few h = (small_within n p.1 (omega (arith, few)) h.0, small_from_within n ps few h.1)
 
 pub small_from_shard : (slots : Slots) (history : List Entry) → IsShard slots history → AreSmall slots
 small_from_shard slots history h = small_from_within (length history) slots (omega (arith, h.few)) (subst (AreWithin (length history)) (sym h.replayed) (replay_within history))

@@ -1,8 +1,7 @@
 //! A bucket's slot: what is kept under its name, and the one call that changes it.
 ghost use Rattle.std.specs.Prelude.{◌≡◌, ◌≤◌, ◌+◌, IfOk, OnErr, false, option_map};
-ghost use Rattle.gcs_meaning.specs.Buckets.{bucket_row};
 ghost use Rattle.gcs_meaning.specs.Fit.{IsFit};
-ghost use Rattle.gcs_meaning.specs.Slot.{fresh_slot};
+ghost use Rattle.gcs_meaning.specs.Slot.{bucket_row, fresh_slot};
 ghost use Rattle.gcs_meaning.specs.Bounds.{IsSmall};
 ghost use Rattle.gcs_meaning.specs.Step.{step, IsOnSlot};
 ghost use Rattle.gcs_bucket.specs.Commands.{is_list};
@@ -51,8 +50,8 @@ impl Bucket {
     pub(crate) fn show(&self, name: &BucketName) -> Result<Option<BucketRow>, AllocError>
         ensures { IfOk result (λ shown. shown ≡ option_map (bucket_row name.now) self.now.alive) }
     {
-        match &self.slot.living {
-            Some(living) => Ok(Some(living.show(name)?)),
+        match &self.slot.alive {
+            Some(state) => Ok(Some(state.show(name)?)),
             None => Ok(None),
         }
     }

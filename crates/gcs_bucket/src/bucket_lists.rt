@@ -1,6 +1,6 @@
 //! The list of a shard's buckets.
 ghost use Rattle.std.specs.Prelude.{◌≡◌, ◌≤◌, ◌+◌, ◌++◌, ◌&&◌, IfOk, OnOk, length, option_map};
-ghost use Rattle.gcs_meaning.specs.Buckets.{bucket_row};
+ghost use Rattle.gcs_meaning.specs.Slot.{bucket_row};
 ghost use Rattle.gcs_meaning.specs.History.{is_listed, listed_buckets, unnamed_answer};
 ghost use Rattle.gcs_meaning.specs.Order.{is_below};
 ghost use Rattle.gcs_meaning.specs.Texts.{begins};

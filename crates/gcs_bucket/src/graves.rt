@@ -1,50 +1,49 @@
 //! Deleted buckets, until their hard times.
 ghost use Rattle.std.specs.Prelude.{◌≡◌, ◌≤◌, ◌<◌, ◌^◌, filter, length, map, nat_lt, vec_len, vec_capacity};
 ghost use Rattle.gcs_meaning.specs.Aging.{aged_grave, aged_graves};
-ghost use Rattle.gcs_meaning.specs.Buckets.{grave_of, with_grave};
+ghost use Rattle.gcs_meaning.specs.BucketDeletion.{grave_of, with_grave};
 ghost use Rattle.gcs_meaning.specs.Policy.{AreInLimits};
-ghost use Rattle.gcs_bucket.specs.Living.{state_of};
+ghost use Rattle.gcs_bucket.specs.Alive.{state_of};
 ghost use Rattle.gcs_versions.specs.Rows.{map_at};
 
-use crate::living::Living;
+use crate::alive::State;
+use gcs_meaning::MICROSECONDS_PER_SECOND;
 use std::marker::Model;
-
-const MICROSECONDS_PER_SECOND: u64 = 1_000_000;
 
 /// A bucket that was deleted, seen as its state and the moment from which on it is gone.
 #[derive(Drop)]
 pub struct Grave {
-    living: Living,
+    state: State,
     hard: u64,
 }
 
 impl Model for Grave {
     ghost use Rattle.gcs_meaning.specs.Slot.{Grave};
-    ghost use Rattle.gcs_bucket.specs.Living.{state_of};
+    ghost use Rattle.gcs_bucket.specs.Alive.{state_of};
 
     ghost Value = { Grave };
 
-    ghost view = { λ g. record { state = state_of g.living; hard = g.hard } };
+    ghost view = { λ g. record { state = state_of g.state; hard = g.hard } };
 }
 
 impl Grave {
     /// The bucket as it is deleted at `moment` (microseconds since 1970): it stays for its
     /// soft-delete duration, and as long as one of its versions does.
-    #[tactic(auto, unfolding(gcs_meaning::specs::Buckets::grave_of))]
-    pub fn of(living: Living, moment: u64) -> Grave
-        requires limits { AreInLimits living.settings }
+    #[tactic(auto, unfolding(gcs_meaning::specs::BucketDeletion::grave_of))]
+    pub fn of(state: State, moment: u64) -> Grave
+        requires limits { AreInLimits state.settings }
         requires moment { moment < 2 ^ 62 }
-        ensures { result ≡ grave_of moment (state_of living) }
+        ensures { result ≡ grave_of moment (state_of state) }
     {
-        let until = moment + living.settings.soft_seconds * MICROSECONDS_PER_SECOND;
-        let hard = until.max(living.rows.latest_hard());
-        Grave { living, hard }
+        let until = moment + state.settings.soft_seconds * MICROSECONDS_PER_SECOND;
+        let hard = until.max(state.rows.latest_hard());
+        Grave { state, hard }
     }
 
     fn age(&mut self, moment: u64)
         ensures { self.new ≡ aged_grave moment self.old }
     {
-        self.living.age(moment);
+        self.state.age(moment);
     }
 }
 

@@ -2,28 +2,25 @@
 //! history that they come from, and the desk of a program that shares its store with nobody.
 #![tactic(auto)]
 
-#[cfg(test)]
-mod asks;
+mod alive;
 mod bucket;
-mod bucket_commands;
+mod bucket_change;
+mod bucket_deletion;
+mod bucket_get;
 mod bucket_lists;
-#[cfg(test)]
-mod calls;
 mod choosing;
 mod desk;
+mod get;
 mod graves;
-mod living;
-mod puts;
-mod reads;
+mod insertion;
+mod list;
+mod object_change;
+mod object_deletion;
+mod put;
 mod refusals;
-mod settings;
 mod shard;
 mod slot;
 mod slots;
-#[cfg(test)]
-mod tests;
-mod version_commands;
-mod versions;
 
 pub use bucket::Bucket;
 pub use desk::PlainDesk;

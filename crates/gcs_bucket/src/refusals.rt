@@ -1,23 +1,19 @@
 //! The tests of a request on a bucket, a version and a content, each as the refusal that it makes.
 ghost use Rattle.std.specs.Prelude.{◌≡◌, ◌<◌, ◌^◌};
 ghost use Rattle.gcs_meaning.specs.Content.{bytes_in};
-ghost use Rattle.gcs_meaning.specs.ObjectChanges.{custom_refusal, time_refusal};
+ghost use Rattle.gcs_meaning.specs.ObjectChange.{custom_refusal, time_refusal};
 ghost use Rattle.gcs_meaning.specs.Pairs.{pairs_size};
 ghost use Rattle.gcs_meaning.specs.Policy.{AreInLimits, bucket_pre_refusal, condition_refusal, policy_refusal, pre_refusal};
 ghost use Rattle.gcs_meaning.specs.Put.{crc_refusal, hash_refusal, md5_refusal};
 ghost use Rattle.gcs_meaning.specs.Retiring.{cover_refusal, facts_of, taken_refusal};
 ghost use Rattle.gcs_meaning.specs.Tests.{size_refusal};
-ghost use Rattle.gcs_bucket.specs.Living.{IsEarly};
+ghost use Rattle.gcs_bucket.specs.Alive.{IsEarly};
 
 use gcs_meaning::{
-    Cover, Digest, Expect, Hashed, Pairs, Pre, PreResult, Reason, Retention, Row, RowFacts,
-    Settings,
+    Cover, Digest, Expect, Hashed, LARGEST_CUSTOM, LARGEST_OBJECT, Pairs, Pre, PreResult, Reason,
+    Retention, Row, RowFacts, Settings,
 };
 use gcs_policy::{bucket_holds, covered, holds, may_change_policy};
-
-const LARGEST_OBJECT: u64 = 5_497_558_138_880;
-
-const LARGEST_CUSTOM: u64 = 8192;
 
 /// The first precondition that fails on a version's two numbers.
 pub fn failed_precondition(pre: &Pre, generation: u64, metageneration: u64) -> Option<Reason>

@@ -3,11 +3,11 @@ ghost use Rattle.std.specs.Prelude.{◌≡◌, ◌≤◌, ◌+◌, IfOk, OnErr, 
 ghost use Rattle.gcs_meaning.specs.Aging.{aged};
 ghost use Rattle.gcs_meaning.specs.Slot.{fresh_slot};
 ghost use Rattle.gcs_meaning.specs.Step.{step, IsOnSlot};
-ghost use Rattle.gcs_bucket.specs.Commands.{is_list, IsOnVersion};
+ghost use Rattle.gcs_bucket.specs.Commands.{is_list};
 ghost use Rattle.gcs_bucket.specs.Slot.{IsReady, value_of};
 
+use crate::alive::State;
 use crate::graves::{Grave, age_graves};
-use crate::living::Living;
 use gcs_meaning::{Answer, Command, Steps};
 use std::alloc::{AllocError, Global};
 use std::sync::ledger::Ledger;
@@ -16,7 +16,7 @@ use std::sync::ledger::Ledger;
 #[derive(Drop)]
 pub struct Slot {
     pub alloc: Global,
-    pub living: Option<Living>,
+    pub alive: Option<State>,
     pub graves: Vec<Grave>,
     pub last_moment: u64,
     pub last_object: u64,
@@ -31,7 +31,7 @@ impl Slot {
     {
         Slot {
             alloc,
-            living: None,
+            alive: None,
             graves: Vec::new(alloc),
             last_moment: 0,
             last_object: 0,
@@ -64,24 +64,6 @@ impl Slot {
             } => self.change_bucket(reading, bucket, pre, change, *whole),
             Command::BucketDelete { bucket: _, pre } => self.delete_bucket(reading, pre),
             Command::List { bucket: _, query } => self.list(reading, query, steps),
-            _ => self.apply_to_version(reading, command, steps),
-        }
-    }
-
-    // A command on a version.
-    fn apply_to_version<L: Ledger>(
-        &mut self,
-        reading: u64,
-        command: &Command,
-        steps: &mut Steps<L>,
-    ) -> Result<Answer, AllocError>
-        requires ready { IsReady (value_of self.old) }
-        requires on { IsOnVersion command.now }
-        ensures done { IfOk result (λ answer. step (value_of self.old) reading command.now ≡ (answer, value_of self.new)) }
-        ensures err { OnErr result (value_of self.new ≡ value_of self.old) }
-        ensures cost { steps.new ≤ steps.old + 2 }
-    {
-        match command {
             Command::Get {
                 bucket: _,
                 name,
@@ -123,8 +105,8 @@ impl Slot {
         ensures capacity { vec_capacity self.new.graves ≡ vec_capacity self.old.graves }
     {
         self.last_moment = moment;
-        if let Some(living) = &mut self.living {
-            living.age(moment);
+        if let Some(state) = &mut self.alive {
+            state.age(moment);
         }
         age_graves(&mut self.graves, moment);
     }

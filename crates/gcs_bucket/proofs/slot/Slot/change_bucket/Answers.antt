@@ -1,5 +1,5 @@
 use Rattle.std.proofs.Common.{ap}
-use Rattle.gcs_bucket.specs.Living.{alive_of}
+use Rattle.gcs_bucket.specs.Alive.{alive_of}
 use Rattle.gcs_bucket.specs.Slot.{value_of}
 use Rattle.gcs_bucket.proofs.Commands.{bucket_change_dead, bucket_change_refused, bucket_change_done}
 use Rattle.gcs_bucket.proofs.slot.Slot.change_bucket.Goals as goal

@@ -1,6 +1,6 @@
 use Rattle.std.proofs.Common.{◌∙◌, ap}
 use Rattle.gcs_meaning.specs.Aging.{aged_state}
-use Rattle.gcs_bucket.specs.Living.{alive_of}
+use Rattle.gcs_bucket.specs.Alive.{alive_of}
 use Rattle.gcs_bucket.specs.Slot.{value_of}
 use Rattle.gcs_bucket.proofs.Commands.{delete_dead, delete_done}
 use Rattle.gcs_bucket.proofs.Sound.{aged_early}

@@ -1,6 +1,6 @@
 use Rattle.std.proofs.Common.{sym, subst}
 use Rattle.gcs_meaning.specs.Slot.{Slot}
-use Rattle.gcs_bucket.specs.Living.{AreLimited}
+use Rattle.gcs_bucket.specs.Alive.{AreLimited}
 use Rattle.gcs_bucket.proofs.Sound.{aged_limited}
 use Rattle.gcs_bucket.proofs.slot.Slot.delete_bucket.Goals as goal
 

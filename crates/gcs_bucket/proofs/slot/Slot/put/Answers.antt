@@ -4,7 +4,7 @@ use Rattle.gcs_meaning.specs.declared.version.Row.{Row}
 use Rattle.gcs_meaning.specs.Choosing.{is_live}
 use Rattle.gcs_meaning.specs.Order.{IsNumbered}
 use Rattle.gcs_meaning.specs.Aging.{aged_state}
-use Rattle.gcs_bucket.specs.Living.{alive_of}
+use Rattle.gcs_bucket.specs.Alive.{alive_of}
 use Rattle.gcs_bucket.specs.Slot.{value_of}
 use Rattle.gcs_bucket.proofs.Commands.{put_dead, put_refused, put_done}
 use Rattle.gcs_bucket.proofs.Sound.{above_aged, aged_early, more_than, one_more}
