@@ -1,5 +1,4 @@
 pub mod Bodies
-pub mod BucketNames
 pub mod Built
 pub mod Faults
 pub mod Kept

@@ -12,14 +12,13 @@ use Rattle.gcs_meaning.specs.declared.changes.Set.TheVariants.{Keep, Clear, To}
 use Rattle.gcs_meaning.specs.declared.reason.Key.{Key}
 use Rattle.gcs_meaning.specs.declared.reason.Key.TheVariants as key
 use Rattle.gcs_meaning.specs.Refusals.{key_name}
-use Rattle.gcs_meaning.specs.BucketChanges.{AreSetInLimits}
+use Rattle.gcs_meaning.specs.BucketChange.{AreSetInLimits}
 use Rattle.gcs_meaning.specs.Changes.{IfSet}
 use Rattle.gcs_meaning.specs.Policy.{IsPeriod, IsDuration}
+use Rattle.gcs_names.specs.Name.{is_bucket_name}
 use Rattle.gcs_json.specs.declared.bucket.BucketBody.{BucketBody}
 use Rattle.gcs_json.specs.Fields.{is_empty, or_bad, said, needed, given_of}
 use Rattle.gcs_json.specs.Kinds.{inside, in_limits, number_of, number_within, text_where}
-use Rattle.gcs_json.specs.Words.{is_bucket_name}
-use Rattle.gcs_json.specs.Bucket as bucket
 use Rattle.gcs_json.specs.BucketLaws.{IsBucketBody}
 use Rattle.gcs_json.proofs.Readings.{and_then-ok}
 

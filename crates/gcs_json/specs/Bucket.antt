@@ -1,6 +1,7 @@
 -- The body of a bucket: its fields in byte order of their names (Cloud Storage JSON API, "Buckets").
 use Rattle.std.specs.Prelude.{◌≡◌, ℕ, ◌==◌, List, [], ◌∷◌, Bool, true, false, Option, Some, None, Result, Ok, Err, if◌then◌else◌, codes}
 use Rattle.serde_json.specs.Data.{Data}
+use Rattle.gcs_names.specs.Name.{is_bucket_name}
 use Rattle.gcs_meaning.specs.declared.changes.Set.TheVariants.{Keep}
 use Rattle.gcs_meaning.specs.declared.changes.SettingsChange.{SettingsChange}
 use Rattle.gcs_meaning.specs.declared.reason.Key.{Key}
@@ -12,8 +13,9 @@ use Rattle.gcs_json.specs.declared.words.Bytes.TheVariants.{Class, Place}
 use Rattle.gcs_json.specs.Fields.{Changed, body_of, names_any, field_of, given_of, given_if, needed, and_then}
 use Rattle.gcs_json.specs.Kinds.{flag, inside, text_where, compact_within, number_within}
 use Rattle.gcs_json.specs.Pairs.{Pair, pairs_within}
-use Rattle.gcs_json.specs.Words.{is_word, is_bucket_name}
+use Rattle.gcs_json.specs.Words.{is_word}
 
+-- whether new versions are under an event-based hold
 abbrev pub default_event_hold_in : Bool → Data → Changed Bool
 default_event_hold_in removes d = field_of removes key.DefaultEventBasedHold flag d
 
@@ -21,6 +23,7 @@ default_event_hold_in removes d = field_of removes key.DefaultEventBasedHold fla
 abbrev pub labels_in : Bool → Data → Changed (List Pair)
 labels_in removes d = field_of removes key.Labels (pairs_within removes (Some 8192)) d
 
+-- an object, kept as its compact text of at most 65,536 bytes
 abbrev pub lifecycle_in : Bool → Data → Changed (List ℕ)
 lifecycle_in removes d = field_of removes key.Lifecycle (compact_within 65536) d
 
@@ -42,9 +45,11 @@ abbrev pub soft_seconds_in : Bool → Data → Changed ℕ
 soft_seconds_in removes d =
     field_of removes key.SoftDeletePolicy (inside (codes "retentionDurationSeconds") (number_within true 604_800 7_776_000)) d
 
+-- 1 to 64 capitals, digits and underscores
 abbrev pub storage_class_in : Bool → Data → Changed (List ℕ)
 storage_class_in removes d = field_of removes key.StorageClass (text_where (is_word 1 64 Class)) d
 
+-- whether versions are kept
 abbrev pub versioned_in : Bool → Data → Changed Bool
 versioned_in removes d = field_of removes key.Versioning (inside (codes "enabled") flag) d
 

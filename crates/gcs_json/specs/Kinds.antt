@@ -37,6 +37,7 @@ number_of _ = None
 abbrev pub in_limits : Bool → ℕ → ℕ → ℕ → Option ℕ
 in_limits zero least most n = if (zero && n == 0) || (nat_le least n && nat_le n most) then Some n else None
 
+-- a value that is such a number
 abbrev pub number_within : Bool → ℕ → ℕ → Data → Option ℕ
 number_within zero least most d = option_and_then (in_limits zero least most) (number_of d)
 

@@ -27,18 +27,23 @@ way_of row = record { uploads = row == 18; makes = makes row; most = if makes ro
 abbrev pub line_in : Key → Bool → Data → Changed (List ℕ)
 line_in key removes d = field_of removes key (text_where (is_word 0 1024 Line)) d
 
+-- an upload alone reads the CRC32C
 abbrev pub crc_in : Way → Data → Result (Option ℕ) BodyFault
 crc_in way d = given_if way.uploads key.Crc32c crc d
 
+-- in microseconds since 1970
 abbrev pub custom_time_in : Bool → Data → Changed ℕ
 custom_time_in removes d = field_of removes key.CustomTime moment d
 
+-- whether it is under an event-based hold
 abbrev pub event_hold_in : Bool → Data → Changed Bool
 event_hold_in removes d = field_of removes key.EventBasedHold flag d
 
+-- an upload alone reads the MD5
 abbrev pub md5_in : Way → Data → Result (Option (List ℕ)) BodyFault
 md5_in way d = given_if way.uploads key.Md5Hash md5 d
 
+-- the custom metadata
 abbrev pub custom_in : Way → Bool → Data → Changed (List Pair)
 custom_in way removes d = field_of removes key.Metadata (pairs_within removes way.most) d
 
@@ -46,9 +51,11 @@ custom_in way removes d = field_of removes key.Metadata (pairs_within removes wa
 abbrev pub name_in : Way → Data → Result (Option (List ℕ)) BodyFault
 name_in way d = given_if way.uploads key.Name any_text d
 
+-- 1 to 64 capitals, digits and underscores, where a version is made
 abbrev pub storage_class_in : Way → Data → Result (Option (List ℕ)) BodyFault
 storage_class_in way d = given_if way.makes key.StorageClass (text_where (is_word 1 64 Class)) d
 
+-- whether it is under a temporary hold
 abbrev pub temporary_hold_in : Bool → Data → Changed Bool
 temporary_hold_in removes d = field_of removes key.TemporaryHold flag d
 

@@ -6,6 +6,7 @@ use Rattle.gcs_meaning.specs.declared.reason.Key.{Key}
 use Rattle.gcs_meaning.specs.Refusals.{key_name}
 use Rattle.gcs_json.specs.declared.fault.BodyFault.{BodyFault}
 
+-- the fault of a reading, where it has one
 abbrev pub fault_of : {A : Type 0} → Result A BodyFault → Option BodyFault
 fault_of (Ok read) = None
 fault_of (Err fault) = Some fault
@@ -19,15 +20,17 @@ or_next (Some fault) next = Some fault
 abbrev pub Tested : Type 0
 Tested = Key × Option BodyFault
 
+-- the fault of the first field that has one
 abbrev pub first_fault : List Tested → Option BodyFault
 first_fault [] = None
 first_fault (field ∷ fields) = or_next field.1 (first_fault fields)
 
--- the names rise in byte order
+-- the names rise in byte order, from this one on
 abbrev pub rises_from : Key → List Tested → Bool
 rises_from key [] = true
 rises_from key (field ∷ fields) = is_lt (slice_cmp nat_cmp (key_name key) (key_name field.0)) && rises_from field.0 fields
 
+-- the names rise in byte order
 abbrev pub is_rising : List Tested → Bool
 is_rising [] = true
 is_rising (field ∷ fields) = rises_from field.0 fields

@@ -1,17 +1,19 @@
 -- The texts that fields may have.
-use Rattle.std.specs.Prelude.{ℕ, ◌-◌, ◌^◌, ◌==◌, ◌&&◌, ◌||◌, List, Bool, not, nat_le, nat_lt, length, take, codes, slice_index, bytes_eq, Option, Some, None, if◌then◌else◌}
+use Rattle.std.specs.Prelude.{ℕ, ◌^◌, ◌==◌, ◌&&◌, ◌||◌, List, Bool, not, nat_le, nat_lt, length, Option, Some, None, if◌then◌else◌}
 use Rattle.std.specs.List.{list_all}
 use Rattle.std.specs.Str.Parse.{digits_value}
-use Rattle.gcs_names.specs.Name.{is_bucket_byte, is_letter_or_digit}
 use Rattle.gcs_json.specs.declared.words.Bytes.{Bytes}
 use Rattle.gcs_json.specs.declared.words.Bytes.TheVariants.{Class, Place, Line, Digit}
 
+-- a capital letter
 abbrev pub is_capital : ℕ → Bool
 is_capital b = nat_le 65 b && nat_le b 90
 
+-- a small letter
 abbrev pub is_small : ℕ → Bool
 is_small b = nat_le 97 b && nat_le b 122
 
+-- a digit
 abbrev pub is_digit : ℕ → Bool
 is_digit b = nat_le 48 b && nat_le b 57
 
@@ -30,10 +32,3 @@ is_word least most bytes text = (nat_le least (length text) && nat_le (length te
 abbrev pub number_in_text : List ℕ → Option ℕ
 number_in_text text =
     if (nat_le 1 (length text) && list_all (passes Digit) text) && nat_lt (digits_value 10 text) (2 ^ 64) then Some (digits_value 10 text) else None
-
--- the same as `IsBucketName`, as a test
-unfoldable pub is_bucket_name : List ℕ → Bool
-is_bucket_name name =
-    nat_le 3 (length name) && nat_le (length name) 63 && list_all is_bucket_byte name
-    && is_letter_or_digit (slice_index name 0) && is_letter_or_digit (slice_index name (length name - 1))
-    && not (bytes_eq (take 4 name) (codes "goog"))

@@ -1,7 +1,7 @@
 //! The body of a bucket.
 ghost use Rattle.std.specs.Prelude.{◌≡◌, ◌≢◌, IfOk, IfErr, IsSome, Ok, Err};
 ghost use Rattle.serde_json.specs.View.{view};
-ghost use Rattle.gcs_meaning.specs.BucketChanges.{AreSetInLimits};
+ghost use Rattle.gcs_meaning.specs.BucketChange.{AreSetInLimits};
 ghost use Rattle.gcs_json.specs.declared.fault.BodyFault.TheVariants.{NoMemory};
 ghost use Rattle.gcs_json.specs.Bucket.{bucket_in, bucket_of, built_bucket, name_in, unbuilt_fields, AreKept};
 
@@ -13,8 +13,8 @@ use crate::numbers::Number;
 use crate::pairs::Pairs;
 use crate::texts::NameOfBucket;
 use crate::words::{CLASS, PLACE};
-use gcs_meaning::{BucketName, Key, SettingsChange, Text};
-use std::alloc::Global;
+use gcs_meaning::{BucketName, Copied, Key, SettingsChange, Text};
+use std::alloc::{AllocError, Global};
 
 // The row of a bucket's insert.
 const INSERT: u32 = 1;
@@ -66,6 +66,16 @@ pub struct BucketBody {
     pub name: Option<BucketName>,
     pub location: Option<Text>,
     pub change: SettingsChange,
+}
+
+impl Copied for BucketBody {
+    fn copy(&self) -> Result<BucketBody, AllocError> {
+        Ok(BucketBody {
+            name: self.name.copy()?,
+            location: self.location.copy()?,
+            change: self.change.copy()?,
+        })
+    }
 }
 
 /// Reads the body of a bucket on a row of the table of paths: 1 inserts a bucket, 4 patches it, 5 replaces its settings.

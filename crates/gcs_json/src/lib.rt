@@ -10,15 +10,10 @@ mod lifecycle;
 mod numbers;
 mod object;
 mod pairs;
-#[cfg(test)]
-mod tests;
 mod texts;
 mod words;
 
 pub use bucket::{BucketBody, read_bucket_body};
 pub use fault::BodyFault;
-pub use laws::{
-    law_bucket_name, law_fields, law_first_fault, law_first_object_fault, law_object_fields,
-};
-pub use lifecycle::has_float;
+pub use laws::{law_fields, law_first_fault, law_first_object_fault, law_object_fields};
 pub use object::{ObjectBody, read_object_body};

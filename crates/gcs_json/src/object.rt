@@ -10,8 +10,8 @@ use crate::kind::Flag;
 use crate::pairs::Pairs;
 use crate::texts::{AnyText, CrcText, Md5Text, TimeText};
 use crate::words::{CLASS, LINE};
-use gcs_meaning::{Expect, Key, MetaChange, Text};
-use std::alloc::Global;
+use gcs_meaning::{Copied, Expect, Key, MetaChange, Text};
+use std::alloc::{AllocError, Global};
 
 // The row of an object's PATCH.
 const PATCH: u32 = 11;
@@ -32,6 +32,17 @@ pub struct ObjectBody {
     pub storage_class: Option<Text>,
     pub change: MetaChange,
     pub expect: Expect,
+}
+
+impl Copied for ObjectBody {
+    fn copy(&self) -> Result<ObjectBody, AllocError> {
+        Ok(ObjectBody {
+            name: self.name.copy()?,
+            storage_class: self.storage_class.copy()?,
+            change: self.change.copy()?,
+            expect: self.expect,
+        })
+    }
 }
 
 /// What a request reads of an object's body: `uploads` its name and digests, `makes` its storage class. `most` is how many

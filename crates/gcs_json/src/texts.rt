@@ -1,7 +1,7 @@
 //! Any text, and the texts of names, digests and moments, which other crates read.
 ghost use Rattle.serde_json.specs.View.{view};
+ghost use Rattle.gcs_names.specs.Name.{is_bucket_name};
 ghost use Rattle.gcs_json.specs.Kinds.{any_text, crc, md5, moment, text_where};
-ghost use Rattle.gcs_json.specs.Words.{is_bucket_name};
 
 use crate::kind::Kind;
 use gcs_crc::{BadDigest, read_crc, read_md5};

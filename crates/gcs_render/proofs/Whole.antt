@@ -4,7 +4,6 @@ use Rattle.std.proofs.lemmas.Bool.{or_parts}
 use Rattle.std.specs.Cmp.Lexicographic.{slice_cmp}
 use Rattle.std.specs.Option.{ForSome}
 use Rattle.std.specs.Ordering.{match_ordering}
-use Rattle.gcs_meaning.specs.declared.reason.Reason.{Reason}
 use Rattle.gcs_meaning.specs.declared.settings.Meta.{Meta}
 use Rattle.gcs_meaning.specs.declared.settings.Retention.{Retention}
 use Rattle.gcs_meaning.specs.declared.settings.Settings.{Settings}
@@ -18,9 +17,8 @@ use Rattle.serde_json.specs.View.{view, items_of}
 use Rattle.serde_json.specs.declared.value.Value.{Value}
 use Rattle.serde_json.specs.Written.{has_float, items_have_float, members_have_float}
 use Rattle.gcs_render.specs.Fields.{Field, put_where, with_fields, object_of, text_if, count_if, where_true, time_if, with_pairs, pairs_if, array_if}
-use Rattle.gcs_render.specs.Lists.{object_list, list_fields, list_data, bucket_list, buckets_fields, buckets_data, rewrite_fields, rewrite_data}
+use Rattle.gcs_render.specs.Lists.{object_list, list_fields, list_data, bucket_list, buckets_fields, buckets_data, rewrite_fields, rewrite_data, where_done}
 use Rattle.gcs_meaning.specs.Tokens.{page_token}
-use Rattle.gcs_render.specs.Refusals.{error_data}
 use Rattle.gcs_render.specs.Resources.{noncurrent_since, soft_since, hard_time, retained_until, version_fields, content_fields, meta_fields, state_fields, object_fields, object_data, retention_if, versioning_if, if_whole, whole_value, settings_fields, bucket_fields, bucket_data}
 
 -- ---- members
@@ -180,12 +178,6 @@ pub bucket_data-whole : (row : BucketRow) → has_float (bucket_data row) ≡ fa
 unfolding bucket_data
 bucket_data-whole row = object_of-whole (bucket_fields row) (settings_fields-whole row.settings)
 
--- ---- errors
-
--- the error of a refusal has no float
-pub error_data-whole : (reason : Reason) → has_float (error_data reason) ≡ false
-error_data-whole reason = refl
-
 -- ---- lists and rewrites
 
 -- nor have the resources of several versions
@@ -215,9 +207,14 @@ pub buckets_data-whole : (rows : List BucketRow) (token : Option (List ℕ)) →
 buckets_data-whole rows token =
     object_of-whole (buckets_fields rows token) (rw (array_if-whole (bucket_list rows) (bucket_list-whole rows), text_if-whole token))
 
+-- a resource that is shown where a rewrite is done has no float where it has none
+where_done-whole : (token : Option (List ℕ)) (resource : Option Data) → ForSome resource (λ d. has_float d ≡ false) → value_has_float (where_done token resource) ≡ false
+where_done-whole None resource whole = some-whole resource whole
+where_done-whole (Some token) resource whole = refl
+
 -- a rewrite's answer has no float where its resource has none
 pub rewrite_data-whole : (reply : RewriteReply) (resource : Option Data) → ForSome resource (λ d. has_float d ≡ false) → has_float (rewrite_data reply resource) ≡ false
-rewrite_data-whole reply resource whole = object_of-whole (rewrite_fields reply resource) (rw (text_if-whole reply.token, some-whole resource whole))
+rewrite_data-whole reply resource whole = object_of-whole (rewrite_fields reply resource) (rw (text_if-whole reply.token, where_done-whole reply.token resource whole))
 
 -- what a clause says of a value that is handed in holds of its data
 pub shown-whole : (resource : Option Value) → ForSome resource (λ shown. has_float (view shown) ≡ false) → ForSome (option_map view resource) (λ d. has_float d ≡ false)

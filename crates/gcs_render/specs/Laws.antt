@@ -24,17 +24,22 @@ has_repeat (key ∷ keys) = is_among key keys || has_repeat keys
 abbrev pub has_field_twice : List Field → Bool
 has_field_twice fields = has_repeat (map (λ field. field.0) fields)
 
+-- of an object
 abbrev pub ObjectFieldsOnce : Type 0
 ObjectFieldsOnce = (bucket : List ℕ) (row : Row) (settings : Settings) → has_field_twice (object_fields bucket row settings) ≡ false
 
+-- of a bucket
 abbrev pub BucketFieldsOnce : Type 0
 BucketFieldsOnce = (row : BucketRow) → has_field_twice (bucket_fields row) ≡ false
 
+-- of a page of objects
 abbrev pub PageFieldsOnce : Type 0
 PageFieldsOnce = (bucket : List ℕ) (page : Page) → has_field_twice (list_fields bucket page) ≡ false
 
+-- of a page of buckets
 abbrev pub BucketPageFieldsOnce : Type 0
 BucketPageFieldsOnce = (rows : List BucketRow) (token : Option (List ℕ)) → has_field_twice (buckets_fields rows token) ≡ false
 
+-- of a rewrite's answer
 abbrev pub RewriteFieldsOnce : Type 0
 RewriteFieldsOnce = (reply : RewriteReply) (resource : Option Data) → has_field_twice (rewrite_fields reply resource) ≡ false

@@ -1,5 +1,5 @@
 -- Lists of resources (Cloud Storage JSON API, "Objects: list" and "Buckets: list"), and a rewrite's answer ("Objects: rewrite").
-use Rattle.std.specs.Prelude.{ℕ, List, [], ◌∷◌, not, Option, option_map, is_some, map, codes}
+use Rattle.std.specs.Prelude.{ℕ, List, [], ◌∷◌, not, Option, Some, None, option_map, is_some, map, codes}
 use Rattle.gcs_meaning.specs.declared.version.Row.{Row}
 use Rattle.gcs_meaning.specs.declared.version.BucketRow.{BucketRow}
 use Rattle.gcs_meaning.specs.declared.listing.Page.{Page}
@@ -23,6 +23,7 @@ list_fields bucket page =
     ∷ (codes "nextPageToken", text_if (option_map page_token page.next))
     ∷ []
 
+-- the same as a value
 abbrev pub list_data : List ℕ → Page → Data
 list_data bucket page = object_of (list_fields bucket page)
 
@@ -38,10 +39,16 @@ buckets_fields rows token =
     ∷ (codes "nextPageToken", text_if token)
     ∷ []
 
+-- the same as a value
 abbrev pub buckets_data : List BucketRow → Option (List ℕ) → Data
 buckets_data rows token = object_of (buckets_fields rows token)
 
--- a rewrite's answer, which is done where it has no token
+-- what stands where a rewrite is done, and not where it has a token to go on with
+abbrev pub where_done : Option (List ℕ) → Option Data → Option Data
+where_done None resource = resource
+where_done (Some token) resource = None
+
+-- a rewrite's answer, which is done where it has no token, and only then shows a resource
 abbrev pub rewrite_fields : RewriteReply → Option Data → List Field
 rewrite_fields reply resource =
     (codes "done", truth (not (is_some reply.token)))
@@ -49,8 +56,9 @@ rewrite_fields reply resource =
     ∷ (codes "objectSize", long reply.size)
     ∷ (codes "totalBytesRewritten", long reply.rewritten)
     ∷ (codes "rewriteToken", text_if reply.token)
-    ∷ (codes "resource", resource)
+    ∷ (codes "resource", where_done reply.token resource)
     ∷ []
 
+-- the same as a value
 abbrev pub rewrite_data : RewriteReply → Option Data → Data
 rewrite_data reply resource = object_of (rewrite_fields reply resource)

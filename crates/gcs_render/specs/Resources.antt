@@ -7,7 +7,10 @@ use Rattle.gcs_meaning.specs.declared.version.Kind.TheVariants.{Live, Noncurrent
 use Rattle.gcs_meaning.specs.declared.settings.Meta.{Meta}
 use Rattle.gcs_meaning.specs.declared.settings.Settings.{Settings}
 use Rattle.gcs_meaning.specs.declared.settings.Retention.{Retention}
+use Rattle.gcs_meaning.specs.BucketDeletion.{hard_of}
+use Rattle.gcs_meaning.specs.Choosing.{is_readable}
 use Rattle.gcs_meaning.specs.Content.{bytes_in, md5_if}
+use Rattle.gcs_meaning.specs.Fit.{kind_began}
 use Rattle.gcs_meaning.specs.Policy.{micros}
 use Rattle.gcs_crc.specs.Crc.{crc}
 use Rattle.gcs_crc.specs.Text.{crc_text_of, md5_text_of}
@@ -34,15 +37,11 @@ noncurrent_since (Soft at hard) = None
 
 -- since when a version is soft-deleted
 abbrev pub soft_since : Kind → Option ℕ
-soft_since Live = None
-soft_since (Noncurrent at) = None
-soft_since (Soft at hard) = Some at
+soft_since kind = if is_readable kind then None else Some (kind_began kind)
 
 -- when a soft-deleted version goes
 abbrev pub hard_time : Kind → Option ℕ
-hard_time Live = None
-hard_time (Noncurrent at) = None
-hard_time (Soft at hard) = Some hard
+hard_time kind = if is_readable kind then None else Some (hard_of kind)
 
 -- the end of a retention of so many seconds; no end is above the greatest number of 64 bits
 abbrev pub retention_end : ℕ → ℕ → ℕ
@@ -107,6 +106,7 @@ state_fields row settings =
     ∷ (codes "retentionExpirationTime", time_if (retained_until row settings))
     ∷ []
 
+-- all of an object
 abbrev pub object_fields : List ℕ → Row → Settings → List Field
 object_fields bucket row settings = version_fields bucket row ++ content_fields row settings ++ meta_fields row.meta ++ state_fields row settings
 
@@ -144,6 +144,7 @@ fixed_fields settings =
     ∷ (codes "storageClass", text settings.storage_class)
     ∷ []
 
+-- what a retention policy is
 abbrev pub retention_fields : Retention → List Field
 retention_fields policy =
     (codes "effectiveTime", time policy.since)
@@ -177,6 +178,7 @@ settings_fields settings =
     ∷ (codes "versioning", versioning_if settings.versioned)
     ∷ []
 
+-- all of a bucket
 abbrev pub bucket_fields : BucketRow → List Field
 bucket_fields row = name_fields row ++ fixed_fields row.settings ++ settings_fields row.settings
 

@@ -1,4 +1,4 @@
-// The resource of a bucket: what is shown of its names, times and settings.
+//! The resource of a bucket: what is shown of its names, times and settings.
 ghost use Rattle.std.specs.Prelude.{◌≡◌, false, IfOk, OnOk, option_map, option_and_then, codes};
 ghost use Rattle.serde_json.specs.View.{view};
 ghost use Rattle.serde_json.specs.Written.{has_float};
@@ -7,8 +7,8 @@ ghost use Rattle.gcs_render.specs.Resources.{name_fields, fixed_fields, settings
 
 use crate::fields::Fields;
 use crate::object::etag_text;
-use gcs_json::has_float;
 use gcs_meaning::{BucketRow, Retention, Settings, Text};
+use gcs_whole::has_float;
 use serde_json::Value;
 use std::alloc::{AllocError, Global};
 

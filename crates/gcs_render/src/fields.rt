@@ -1,4 +1,4 @@
-// An object that is filled field by field.
+//! An object that is filled field by field.
 ghost use Rattle.std.specs.Prelude.{◌≡◌, Some, OnOk, map, option_map, string_bytes};
 ghost use Rattle.serde_json.specs.Data.{no_members, object};
 ghost use Rattle.serde_json.specs.View.{view};

@@ -1,4 +1,4 @@
-// Laws of the tables of fields.
+//! Laws of the tables of fields.
 ghost use Rattle.gcs_render.specs.Laws.{ObjectFieldsOnce, BucketFieldsOnce, PageFieldsOnce, BucketPageFieldsOnce, RewriteFieldsOnce};
 
 /// Nothing that is shown has a field twice.

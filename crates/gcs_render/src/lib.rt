@@ -8,8 +8,6 @@ mod laws;
 mod lists;
 mod object;
 mod refusal;
-#[cfg(test)]
-mod tests;
 
 pub use bucket::bucket_value;
 pub use laws::law_fields_once;

@@ -1,4 +1,4 @@
-// Lists of resources, and a rewrite's answer.
+//! Lists of resources, and a rewrite's answer.
 ghost use Rattle.std.specs.Prelude.{◌≡◌, false, IfOk, map, option_map, string_bytes};
 ghost use Rattle.std.specs.Option.{ForSome};
 ghost use Rattle.serde_json.specs.Data.{string};
@@ -56,7 +56,7 @@ pub fn buckets_value(
     Ok(fields.into_value())
 }
 
-/// A rewrite's answer, with the destination's resource where there is one. It is done where the reply has no token.
+/// A rewrite's answer. It is done where the reply has no token, and then shows the destination's resource, where there is one.
 /// `Err`: no memory.
 ///
 /// Source: Cloud Storage JSON API, "Objects: rewrite".
@@ -70,12 +70,17 @@ pub fn rewrite_value(
         (λ value. ForSome resource (λ shown. has_float (view shown) ≡ false) → has_float (view value) ≡ false) }
 {
     let mut fields = Fields::new(alloc);
-    fields.truth("done", reply.token.is_none())?;
+    let done = reply.token.is_none();
+    fields.truth("done", done)?;
     fields.text("kind", "storage#rewriteResponse")?;
     fields.long("objectSize", reply.size)?;
     fields.long("totalBytesRewritten", reply.rewritten)?;
     fields.text_if("rewriteToken", &reply.token)?;
-    fields.put_if("resource", resource)?;
+    if done {
+        fields.put_if("resource", resource)?;
+    } else {
+        drop(resource);
+    }
     Ok(fields.into_value())
 }
 

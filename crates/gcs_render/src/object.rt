@@ -1,4 +1,4 @@
-// The resource of an object: what is shown of one version.
+//! The resource of an object: what is shown of one version.
 ghost use Rattle.std.specs.Prelude.{◌≡◌, false, unwrap_or, option_map, IfOk, OnOk, string_bytes, codes};
 ghost use Rattle.serde_json.specs.View.{view};
 ghost use Rattle.serde_json.specs.Written.{has_float};
@@ -12,6 +12,8 @@ use gcs_crc::{crc_text, md5_text};
 use gcs_meaning::{BucketName, Hashed, Kind, Meta, Row, Settings};
 use serde_json::Value;
 use std::alloc::{AllocError, Global};
+
+const MICROSECONDS_PER_SECOND: u64 = 1_000_000;
 
 /// The resource of a version in this bucket, with the bucket's settings. `Err`: no memory.
 ///
@@ -183,5 +185,5 @@ fn retained_until_of(row: &Row, settings: &Settings) -> Option<u64>
 fn retention_end_of(start: u64, seconds: u64) -> u64
     ensures { result ≡ retention_end start seconds }
 {
-    start.saturating_add(seconds.saturating_mul(1_000_000))
+    start.saturating_add(seconds.saturating_mul(MICROSECONDS_PER_SECOND))
 }

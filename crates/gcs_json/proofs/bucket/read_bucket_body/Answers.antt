@@ -2,8 +2,8 @@ use Rattle.std.proofs.Common.{◌≡◌, true, ◌==◌, ap}
 use Rattle.std.proofs.lemmas.Result.{IfOk-weaker}
 use Rattle.std.specs.Option.{IsSome}
 use Rattle.serde_json.specs.View.{view}
-use Rattle.gcs_json.specs.Bucket.{built_bucket, unbuilt_fields, AreKept}
-use Rattle.gcs_meaning.specs.BucketChanges.{AreSetInLimits}
+use Rattle.gcs_json.specs.Bucket.{unbuilt_fields, AreKept}
+use Rattle.gcs_meaning.specs.BucketChange.{AreSetInLimits}
 use Rattle.gcs_json.proofs.Built.{bucket_built}
 use Rattle.gcs_json.proofs.Kept.{bucket_kept}
 use Rattle.gcs_json.proofs.Limits.{are_set_in_limits, is_named}

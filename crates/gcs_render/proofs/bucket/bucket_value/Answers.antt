@@ -1,5 +1,5 @@
 use Rattle.std.proofs.Common.{◌≡◌, ap, ◌∙◌}
-use Rattle.serde_json.specs.Data.{Members, object, no_members}
+use Rattle.serde_json.specs.Data.{Members, object}
 use Rattle.serde_json.specs.View.{view}
 use Rattle.serde_json.specs.Written.{has_float}
 use Rattle.gcs_render.specs.Fields.{with_fields}

@@ -1,6 +1,6 @@
 use Rattle.std.proofs.lemmas.Grind.{common_steps}
 use Rattle.std.proofs.Common.{arith, refl}
-use Rattle.gcs_json.proofs.BucketNames.{passes_where_named, fails_where_unnamed}
+use Rattle.gcs_names.proofs.BucketNames.{passes_where_named, fails_where_unnamed}
 use Rattle.gcs_json.proofs.texts.NameOfBucketKindBucketName.read.Goals as goal
 
 pub returns-in-Ok : goal.returns-in-Ok
