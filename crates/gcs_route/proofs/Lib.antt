@@ -1,8 +1,12 @@
 pub mod Cutting
 pub mod Firsts
+pub mod OfTable
 pub mod OneCall
 pub mod OneMask
 pub mod OneReason
+pub mod ParamLemmas
+pub mod PathNames
 pub mod Queries
 pub mod Rows
+pub mod Stable
 pub mod ValueLemmas

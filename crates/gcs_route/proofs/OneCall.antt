@@ -9,7 +9,7 @@ use Rattle.gcs_route.specs.declared.fault.RouteFault.TheVariants.{Refused}
 use Rattle.gcs_route.specs.Table.{Row}
 use Rattle.gcs_route.specs.Paths.{segments, path_of, query_of}
 use Rattle.gcs_route.specs.Filling.{all_filled}
-use Rattle.gcs_route.specs.Pieces.{row_number, params_of}
+use Rattle.gcs_route.specs.Pieces.{row_by}
 use Rattle.gcs_route.specs.Refusals.{Test, Passes, AllPass, FirstFails, tests}
 use Rattle.gcs_route.specs.Masks.{IsMaskPart, IsSameMask}
 use Rattle.gcs_route.proofs.OneMask.{same_masks}
@@ -30,10 +30,10 @@ pub one_call : (method target : List ℕ) (call other : Call) → IsCall method 
 one_call method target call other is_call is_other =
     let pairs = pairs_of (query_of target) in
     let same : is_call.0 ≡ is_other.0 = same_row (sym is_call.1 ∙ is_other.1) in
-    let filled : Row → Call = λ row. all_filled pairs (named (row_number pairs row) row (segments (path_of target))) (params_of pairs row) in
+    let filled : Row → Call = λ row. all_filled pairs (named (row_by pairs row) (segments (path_of target))) (row_by pairs row).params in
     let c = is_call.2 in
     let d = is_other.2 in
-    let masks = same_masks pairs (is_call.0).masking c.1 d.1 c.2 (subst (λ (row : Row). IsMaskPart pairs row.masking d.1) (sym same) d.2) in (
+    let masks = same_masks pairs (row_by pairs is_call.0).masking c.1 d.1 c.2 (subst (λ (row : Row). IsMaskPart pairs (row_by pairs row).masking d.1) (sym same) d.2) in (
       unmasked call (filled is_call.0) c.1 c.3 ∙ ap (λ row. record (filled row) { mask = Absent }) same ∙ sym (unmasked other (filled is_other.0) d.1 d.3),
       subst₂ IsSameMask (ap (λ (x : Call). x.mask) (sym c.3)) (ap (λ (x : Call). x.mask) (sym d.3)) masks,
     )
@@ -45,5 +45,5 @@ none_fails text (t ∷ ts) reason all fails =
 
 pub no_fault : (method target : List ℕ) (call : Call) (reason : Reason) → IsCall method target call → IsFault method target (Refused reason) → ⊥
 no_fault method target call reason is_call is_fault =
-    none_fails (query_of target) (tests is_call.0 (segments (path_of target)) (query_of target)) reason is_call.2.0
+    none_fails (query_of target) (tests (row_by (pairs_of (query_of target)) is_call.0) (segments (path_of target))) reason is_call.2.0
     (subst (λ o. IsFaultBy o (segments (path_of target)) (query_of target) (Refused reason)) is_call.1 is_fault)

@@ -1,5 +1,5 @@
 -- A query has one mask.
-use Rattle.std.proofs.Common.{◌≡◌, ℕ, List, [], inl, inr, ⊎_elim, ◌⊎◌, le_antisymm, sym, ◌∙◌}
+use Rattle.std.proofs.Common.{◌≡◌, ℕ, List, [], ⊎_elim, ◌⊎◌, le_antisymm, sym, ◌∙◌}
 use Rattle.gcs_query.specs.Query.{Pair}
 use Rattle.gcs_fields.specs.Tree.{IsPlace}
 use Rattle.gcs_fields.specs.Views.{mask_of}

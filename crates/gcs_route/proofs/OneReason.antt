@@ -15,7 +15,8 @@ use Rattle.gcs_route.specs.Finding.{find_row}
 use Rattle.gcs_route.specs.Params.{text_at, IsNoNumber, IsNoCount, IsNoFlag, IsNoUpload, Lacks, Wrong, Refuses}
 use Rattle.gcs_route.specs.Masks.{fields_of}
 use Rattle.gcs_route.proofs.OneMask.{one_place}
-use Rattle.gcs_route.specs.Refusals.{Test, built, bucket, object, query, param, mask, Fails, FirstFails, tests}
+use Rattle.gcs_route.specs.Refusals.{Test, served, bucket, object, query, param, mask, Fails, FirstFails, tests}
+use Rattle.gcs_route.specs.Pieces.{row_by}
 use Rattle.gcs_route.specs.Calls.{IsFault, IsFaultBy}
 
 -- a key that is required has no text, or a wrong one
@@ -72,7 +73,7 @@ one_of_param q UploadId r s f g = needed q key.UploadId IsNoCount r s (λ wrong.
 
 -- so is a test
 one_of_test : (text : List ℕ) (t : Test) (r s : Reason) → Fails text t r → Fails text t s → r ≡ s
-one_of_test text (built row) r s f g = f.0 ∙ sym g.0
+one_of_test text (served kind) r s f g = f.0 ∙ sym g.0
 one_of_test text (bucket name) r s f g = f.0 ∙ sym g.0
 one_of_test text (object name) r s f g = f.0 ∙ sym g.0
 one_of_test text query r s f g = f.0 ∙ sym g.0
@@ -89,7 +90,7 @@ one_of_first text (t ∷ ts) r s (inr f) (inr g) = one_of_first text ts r s f.1 
 
 one_by : (o : Option Row) (segs : List (List ℕ)) (text : List ℕ) (r s : Reason) → IsFaultBy o segs text (Refused r) → IsFaultBy o segs text (Refused s) → r ≡ s
 one_by None segs text r s f g = f ∙ sym g
-one_by (Some row) segs text r s f g = one_of_first text (tests row segs text) r s f g
+one_by (Some row) segs text r s f g = one_of_first text (tests (row_by (pairs_of text) row) segs) r s f g
 
 -- a request that is refused is so for one reason
 pub one_reason : (method target : List ℕ) (reason other : Reason) → IsFault method target (Refused reason) → IsFault method target (Refused other) → reason ≡ other

@@ -1,7 +1,8 @@
 -- The tests of a row: names, query, parameters, mask.
-use Rattle.std.proofs.Common.{◌≡◌, ℕ, List, [], ◌∷◌, ◌++◌, map, inl, inr, ⊎_elim, Option, Some, None, subst, sym, ap, ◌∙◌}
+use Rattle.std.proofs.Common.{◌≡◌, ℕ, true, false, List, [], ◌∷◌, ◌++◌, map, inl, inr, ⊎_elim, Option, Some, None, subst, sym, ap, refl, ◌∙◌}
 use Rattle.gcs_query.specs.Query.{Pair, pairs_of}
 use Rattle.gcs_meaning.specs.declared.reason.Reason.{Reason}
+use Rattle.gcs_meaning.specs.declared.reason.Reason.TheVariants.{NotBuilt}
 use Rattle.gcs_route.specs.declared.fault.RouteFault.{RouteFault}
 use Rattle.gcs_route.specs.declared.fault.RouteFault.TheVariants.{Refused, NoMemory}
 use Rattle.gcs_route.specs.declared.table.Param.{Param}
@@ -15,11 +16,16 @@ use Rattle.gcs_route.specs.Masks.{IsMaskPart, IsMaskFault}
 use Rattle.gcs_route.specs.Table.{Row, routes}
 use Rattle.gcs_route.specs.Paths.{segments, path_of, query_of}
 use Rattle.gcs_route.specs.Finding.{find_row}
-use Rattle.gcs_route.specs.Calls.{named, IsCallOf, IsCall, IsFaultBy}
+use Rattle.gcs_route.specs.Calls.{named, IsCallOf, IsFaultOfRow, IsCall, IsFaultBy}
 use Rattle.gcs_route.specs.Params.{Accepts, AllAccepted, FirstRefuses, IsFirstFaultOf}
 use Rattle.gcs_route.specs.Filling.{all_filled}
-use Rattle.gcs_route.specs.Pieces.{row_number, params_of}
-use Rattle.gcs_route.specs.Refusals.{built, query, param, Passes, AllPass, FirstFails, IsFirstFault, name_tests, mask_tests, value_tests, tests, AlwaysPass, IsAlwaysFirstFault}
+use Rattle.gcs_route.specs.Pieces.{row_by}
+use Rattle.gcs_route.specs.Pairs.{AreAsIn, AreReadOf, AreNoTexts}
+use Rattle.gcs_route.specs.Served.{is_unserved}
+use Rattle.gcs_route.specs.declared.kind.RequestKind.{RequestKind}
+use Rattle.gcs_route.specs.declared.pairs.QueryPairs.{QueryPairs}
+use Rattle.gcs_route.specs.declared.pairs.QueryPairs.TheVariants.{Texts, Bytes}
+use Rattle.gcs_route.specs.Refusals.{served, query, param, Passes, AllPass, FirstFails, IsFirstFault, name_tests, mask_tests, value_tests, tests, AlwaysPass, IsAlwaysFirstFault}
 use Rattle.gcs_route.proofs.Firsts.{AllPass-append, IsFirstFault-front, IsFirstFault-rest}
 
 -- parameters that are accepted pass as tests
@@ -42,39 +48,47 @@ unread_tested e = cc
 kept_tested : Kept ≡ Tested → ⊥
 kept_tested e = cc
 
--- the tests behind that of the row tell the reason where the row is served
-served : (row : Row) (segs : List (List ℕ)) (text : List ℕ) (f : RouteFault) → Passes text (built row)
-    → IsFirstFault text (name_tests row.path segs ++ query ∷ value_tests row text) f → IsFirstFault text (tests row segs text) f
-served row segs text (Refused r) row_passes h = inr (row_passes, h)
-served row segs text NoMemory row_passes h = tt
+-- a request that is served passes
+pub served_passes : (text : List ℕ) (pairs : List Pair) (kind : RequestKind) → pairs ≡ pairs_of text → is_unserved pairs kind ≡ false → Passes text (served kind)
+served_passes text pairs kind p is reason fails =
+    let unserved : is_unserved pairs kind ≡ true = subst (λ x. is_unserved x kind ≡ true) (sym p) fails.1 in
+    absurd (cc (is, unserved))
 
--- the row is not served
-pub refused_row : (row : Row) (segs : List (List ℕ)) (text : List ℕ) (f : RouteFault) → IsFirstFault text (built row ∷ []) f → IsFirstFault text (tests row segs text) f
-refused_row row segs text f h = IsFirstFault-front text (built row ∷ []) (name_tests row.path segs ++ query ∷ value_tests row text) f h
+-- the tests behind the first tell the reason where the request is served
+behind_served : (row : Row) (segs : List (List ℕ)) (text : List ℕ) (f : RouteFault) → Passes text (served row.kind)
+    → IsFirstFault text (name_tests row.path segs ++ query ∷ value_tests row) f → IsFirstFault text (tests row segs) f
+behind_served row segs text (Refused r) is_served h = inr (is_served, h)
+behind_served row segs text NoMemory is_served h = tt
+
+-- the request is not served
+pub refused_kind : (row : Row) (segs : List (List ℕ)) (text : List ℕ) (pairs : List Pair) (f : RouteFault) → pairs ≡ pairs_of text
+    → f ≡ Refused NotBuilt → is_unserved pairs row.kind ≡ true → IsFirstFault text (tests row segs) f
+refused_kind row segs text pairs f p e is =
+    subst (IsFirstFault text (tests row segs)) (sym e) (inl (refl, subst (λ x. is_unserved x row.kind ≡ true) p is))
 
 -- a name is refused
-pub refused_name : (row : Row) (segs : List (List ℕ)) (text : List ℕ) (f : RouteFault) → Passes text (built row) → IsAlwaysFirstFault (name_tests row.path segs) f → IsFirstFault text (tests row segs text) f
-refused_name row segs text f row_passes h = served row segs text f row_passes (IsFirstFault-front text (name_tests row.path segs) (query ∷ value_tests row text) f (h text))
+pub refused_name : (row : Row) (segs : List (List ℕ)) (text : List ℕ) (f : RouteFault) → Passes text (served row.kind) → IsAlwaysFirstFault (name_tests row.path segs) f → IsFirstFault text (tests row segs) f
+refused_name row segs text f is_served h = behind_served row segs text f is_served (IsFirstFault-front text (name_tests row.path segs) (query ∷ value_tests row) f (h text))
 
 -- the query is refused
-pub refused_query : (row : Row) (segs : List (List ℕ)) (text : List ℕ) (f : RouteFault) → Passes text (built row) → AlwaysPass (name_tests row.path segs) → IsFirstFault text (query ∷ []) f → IsFirstFault text (tests row segs text) f
-refused_query row segs text f row_passes names h =
-    served row segs text f row_passes (IsFirstFault-rest text (name_tests row.path segs) (query ∷ value_tests row text) f (names text) (IsFirstFault-front text (query ∷ []) (value_tests row text) f h))
+pub refused_query : (row : Row) (segs : List (List ℕ)) (text : List ℕ) (f : RouteFault) → Passes text (served row.kind) → AlwaysPass (name_tests row.path segs) → IsFirstFault text (query ∷ []) f → IsFirstFault text (tests row segs) f
+refused_query row segs text f is_served names h =
+    behind_served row segs text f is_served (IsFirstFault-rest text (name_tests row.path segs) (query ∷ value_tests row) f (names text) (IsFirstFault-front text (query ∷ []) (value_tests row) f h))
 
 -- a parameter or the mask is refused
-refused_value : (row : Row) (segs : List (List ℕ)) (text : List ℕ) (f : RouteFault) → Passes text (built row) → AlwaysPass (name_tests row.path segs) → Passes text query
-    → IsFirstFault text (value_tests row text) f → IsFirstFault text (tests row segs text) f
-refused_value row segs text f row_passes names is_text h =
-    served row segs text f row_passes (IsFirstFault-rest text (name_tests row.path segs) (query ∷ value_tests row text) f (names text)
-    (IsFirstFault-rest text (query ∷ []) (value_tests row text) f (is_text, tt) h))
+refused_value : (row : Row) (segs : List (List ℕ)) (text : List ℕ) (f : RouteFault) → Passes text (served row.kind) → AlwaysPass (name_tests row.path segs) → Passes text query
+    → IsFirstFault text (value_tests row) f → IsFirstFault text (tests row segs) f
+refused_value row segs text f is_served names is_text h =
+    behind_served row segs text f is_served (IsFirstFault-rest text (name_tests row.path segs) (query ∷ value_tests row) f (names text)
+    (IsFirstFault-rest text (query ∷ []) (value_tests row) f (is_text, tt) h))
 
 -- a parameter of these pairs is refused
-pub refused_by_pairs : (row : Row) (segs : List (List ℕ)) (text : List ℕ) (f : RouteFault) (pairs : List Pair) → pairs ≡ pairs_of text → Passes text (built row) → AlwaysPass (name_tests row.path segs) → Passes text query
-    → IsFirstFaultOf pairs (params_of pairs row) f → IsFirstFault text (tests row segs text) f
-refused_by_pairs row segs text f pairs p row_passes names is_text h =
-    refused_value row segs text f row_passes names is_text
-    (IsFirstFault-front text (map param (params_of (pairs_of text) row)) (mask_tests row.masking) f
-    (params_fault text (params_of (pairs_of text) row) f (subst (λ x. IsFirstFaultOf x (params_of x row) f) p h)))
+pub refused_param : (row : Row) (segs : List (List ℕ)) (text : List ℕ) (f : RouteFault) (pairs : List Pair) → pairs ≡ pairs_of text → Passes text (served row.kind) → AlwaysPass (name_tests row.path segs) → Passes text query
+    → IsFirstFaultOf pairs row.params f → IsFirstFault text (tests row segs) f
+refused_param row segs text f pairs p is_served names is_text h =
+    refused_value row segs text f is_served names is_text
+    (IsFirstFault-front text (map param row.params) (mask_tests row.masking) f
+    (params_fault text row.params f (subst (λ x. IsFirstFaultOf x row.params f) p h)))
 
 -- a mask that is refused is so as a test
 mask_fault : (text : List ℕ) (masking : Masking) (f : RouteFault) → IsMaskFault (pairs_of text) masking f → IsFirstFault text (mask_tests masking) f
@@ -84,12 +98,12 @@ mask_fault text Kept (Refused r) h = absurd (kept_tested h.0)
 mask_fault text masking NoMemory h = tt
 
 -- the mask of these pairs is refused
-pub refused_mask : (row : Row) (segs : List (List ℕ)) (text : List ℕ) (f : RouteFault) (pairs : List Pair) → pairs ≡ pairs_of text → Passes text (built row) → AlwaysPass (name_tests row.path segs) → Passes text query
-    → AllAccepted pairs (params_of pairs row) → IsMaskFault pairs row.masking f → IsFirstFault text (tests row segs text) f
-refused_mask row segs text f pairs p row_passes names is_text accepted h =
-    refused_value row segs text f row_passes names is_text
-    (IsFirstFault-rest text (map param (params_of (pairs_of text) row)) (mask_tests row.masking) f
-    (params_pass text (params_of (pairs_of text) row) (subst (λ x. AllAccepted x (params_of x row)) p accepted))
+pub refused_mask : (row : Row) (segs : List (List ℕ)) (text : List ℕ) (f : RouteFault) (pairs : List Pair) → pairs ≡ pairs_of text → Passes text (served row.kind) → AlwaysPass (name_tests row.path segs) → Passes text query
+    → AllAccepted pairs row.params → IsMaskFault pairs row.masking f → IsFirstFault text (tests row segs) f
+refused_mask row segs text f pairs p is_served names is_text accepted h =
+    refused_value row segs text f is_served names is_text
+    (IsFirstFault-rest text (map param row.params) (mask_tests row.masking) f
+    (params_pass text row.params (subst (λ x. AllAccepted x row.params) p accepted))
     (mask_fault text row.masking f (subst (λ x. IsMaskFault x row.masking f) p h)))
 
 -- a mask of a row that tests it passes
@@ -101,40 +115,57 @@ mask_passes text Tested (Is mask) h = (λ reason bad. bad.2.2 (mask_of mask) h.2
 mask_passes text Tested (Fault place) h = absurd (kept_tested (sym h.0))
 
 -- all tests pass
-all_pass : (row : Row) (segs : List (List ℕ)) (text : List ℕ) (part : MaskPart) → Passes text (built row) → AlwaysPass (name_tests row.path segs) → Passes text query
-    → AllAccepted (pairs_of text) (params_of (pairs_of text) row) → IsMaskPart (pairs_of text) row.masking part → AllPass text (tests row segs text)
-all_pass row segs text part row_passes names is_text accepted masked = (
-  row_passes,
-  AllPass-append text (name_tests row.path segs) (query ∷ value_tests row text) (names text) (
+all_pass : (row : Row) (segs : List (List ℕ)) (text : List ℕ) (part : MaskPart) → Passes text (served row.kind) → AlwaysPass (name_tests row.path segs) → Passes text query
+    → AllAccepted (pairs_of text) row.params → IsMaskPart (pairs_of text) row.masking part → AllPass text (tests row segs)
+all_pass row segs text part is_served names is_text accepted masked = (
+  is_served,
+  AllPass-append text (name_tests row.path segs) (query ∷ value_tests row) (names text) (
     is_text,
-    AllPass-append text (map param (params_of (pairs_of text) row)) (mask_tests row.masking) (params_pass text (params_of (pairs_of text) row) accepted) (mask_passes text row.masking part masked),
+    AllPass-append text (map param row.params) (mask_tests row.masking) (params_pass text row.params accepted) (mask_passes text row.masking part masked),
   ),
 )
 
--- what a call has of a mask, besides its parameters
-abbrev pub Masked : List Pair → Row → Call → Call → Type 0
-Masked pairs row call made = (part : MaskPart) × IsMaskPart pairs row.masking part × (made ≡ record call { mask = part })
-
--- a call by its parts
-pub is_call_of : (row : Row) (segs : List (List ℕ)) (text : List ℕ) (start call made : Call) (pairs : List Pair) → pairs ≡ pairs_of text
-    → start ≡ named (row_number pairs row) row segs → Passes text (built row) → AlwaysPass (name_tests row.path segs) → Passes text query
-    → AllAccepted pairs (params_of pairs row) → call ≡ all_filled pairs start (params_of pairs row) → Masked pairs row call made → IsCallOf row segs text made
-is_call_of row segs text start call made pairs p s row_passes names is_text accepted f m =
-    let masked = subst (λ x. IsMaskPart x row.masking m.0) p m.1 in (
-      all_pass row segs text m.0 row_passes names is_text (subst (λ x. AllAccepted x (params_of x row)) p accepted) masked,
-      m.0,
+-- a call by its parts: the names, the parameters and the mask of these pairs
+pub is_call_of : (row : Row) (segs : List (List ℕ)) (text : List ℕ) (start call : Call) (part : MaskPart) (pairs : List Pair) → pairs ≡ pairs_of text
+    → start ≡ named row segs → Passes text (served row.kind) → AlwaysPass (name_tests row.path segs) → Passes text query
+    → AllAccepted pairs row.params → call ≡ all_filled pairs start row.params → IsMaskPart pairs row.masking part → IsCallOf row segs text (record call { mask = part })
+is_call_of row segs text start call part pairs p s is_served names is_text accepted f m =
+    let masked = subst (λ x. IsMaskPart x row.masking part) p m in (
+      all_pass row segs text part is_served names is_text (subst (λ x. AllAccepted x row.params) p accepted) masked,
+      part,
       masked,
-      m.2 ∙ ap (λ (x : Call). record x { mask = m.0 })
-          (f ∙ ap (λ x. all_filled pairs x (params_of pairs row)) s ∙ ap (λ x. all_filled x (named (row_number x row) row segs) (params_of x row)) p),
+      ap (λ (x : Call). record x { mask = part }) (f ∙ ap (λ x. all_filled pairs x row.params) s ∙ ap (λ x. all_filled x (named row segs) row.params) p),
     )
 
 -- the call of a request by its row
 pub is_call : (method target : List ℕ) (row : Row) (segs : List (List ℕ)) (text : List ℕ) (call : Call) → segs ≡ segments (path_of target) → text ≡ query_of target
-    → find_row routes method segs ≡ Some row → IsCallOf row segs text call → IsCall method target call
-is_call method target row segs text call s q f h =
-    (row, subst (λ x. find_row routes method x ≡ Some row) s f, subst (λ x. IsCallOf row x (query_of target) call) s (subst (λ x. IsCallOf row segs x call) q h))
+    → find_row routes method segs ≡ Some row → IsCallOf (row_by (pairs_of text) row) segs text call → IsCall method target call
+is_call method target row segs text call s q f h = (
+  row,
+  subst (λ x. find_row routes method x ≡ Some row) s f,
+  subst (λ x. IsCallOf (row_by (pairs_of (query_of target)) row) x (query_of target) call) s (subst (λ x. IsCallOf (row_by (pairs_of x) row) segs x call) q h),
+)
+
+-- a query whose pairs are no texts is refused as a test
+pub no_texts : (text : List ℕ) (pairs : QueryPairs) (f : RouteFault) → AreAsIn text pairs → AreNoTexts pairs f → IsFirstFault text (query ∷ []) f
+no_texts text (Texts pairs) f kind h = absurd h
+no_texts text (Bytes pairs) f kind h = subst (IsFirstFault text (query ∷ [])) (sym h) (inl (refl, kind))
 
 -- want of memory is a fault whatever the row
 pub no_memory : (o : Option Row) (segs : List (List ℕ)) (text : List ℕ) → IsFaultBy o segs text NoMemory
 no_memory None segs text = tt
 no_memory (Some row) segs text = tt
+
+-- a fault of the row by these pairs is one of the row by the query
+pub fault_by_row : (row by : Row) (segs : List (List ℕ)) (text : List ℕ) (pairs : List Pair) (f : RouteFault) → pairs ≡ pairs_of text → by ≡ row_by pairs row
+    → IsFirstFault text (tests by segs) f → IsFaultOfRow (row_by (pairs_of text) row) segs text f
+fault_by_row row by segs text pairs f p b h = subst (λ x. IsFirstFault text (tests x segs) f) (b ∙ ap (λ x. row_by x row) p) h
+
+-- and so is a call
+pub call_by_row : (row by : Row) (segs : List (List ℕ)) (text : List ℕ) (pairs : List Pair) (call : Call) → pairs ≡ pairs_of text → by ≡ row_by pairs row
+    → IsCallOf by segs text call → IsCallOf (row_by (pairs_of text) row) segs text call
+call_by_row row by segs text pairs call p b h = subst (λ x. IsCallOf x segs text call) (b ∙ ap (λ x. row_by x row) p) h
+
+-- the texts of a query are its pairs, and it passes
+pub texts_pass : (text : List ℕ) (pairs : QueryPairs) (texts : List Pair) → pairs ≡ Texts texts → AreReadOf text pairs → (texts ≡ pairs_of text) × Passes text query
+texts_pass text pairs texts e h = let read = subst (AreReadOf text) e h in (read.same, read.kind)

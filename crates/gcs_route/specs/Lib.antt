@@ -1,10 +1,13 @@
-pub mod Built
 pub mod Calls
 pub mod Filling
 pub mod Finding
+pub mod Kinds
 pub mod Masks
+pub mod OfTable
+pub mod Pairs
 pub mod Params
 pub mod Paths
 pub mod Pieces
 pub mod Refusals
+pub mod Served
 pub mod Table

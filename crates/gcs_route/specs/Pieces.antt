@@ -1,18 +1,17 @@
 -- A POST that names an upload goes on with it: it is of another row than one that begins an upload.
-use Rattle.std.specs.Prelude.{ℕ, List, [], ◌∷◌, Bool, ◌==◌, ◌&&◌, not, bytes_eq, if◌then◌else◌}
+use Rattle.std.specs.Prelude.{List, [], ◌∷◌, Bool, ◌&&◌, not, bytes_eq, if◌then◌else◌}
 use Rattle.gcs_query.specs.Query.{Pair}
 use Rattle.gcs_meaning.specs.declared.reason.Key.TheVariants as key
-use Rattle.gcs_route.specs.declared.table.Param.{Param}
+use Rattle.gcs_route.specs.declared.kind.RequestKind.TheVariants.{UploadPiece}
 use Rattle.gcs_route.specs.declared.table.Param.TheVariants.{UploadId}
-use Rattle.gcs_route.specs.Table.{Row}
+use Rattle.gcs_route.specs.Kinds.{is_upload}
 use Rattle.gcs_route.specs.Params.{text_at}
+use Rattle.gcs_route.specs.Table.{Row}
 
--- a request of row 18 whose query names an upload is of row 19
+-- a request of the row of uploads whose query names an upload
 abbrev pub is_piece : List Pair → Row → Bool
-is_piece q row = (row.number == 18) && not (bytes_eq (text_at q key.UploadId) [])
+is_piece query row = is_upload row.kind && not (bytes_eq (text_at query key.UploadId) [])
 
-abbrev pub row_number : List Pair → Row → ℕ
-row_number q row = if is_piece q row then 19 else row.number
-
-abbrev pub params_of : List Pair → Row → List Param
-params_of q row = if is_piece q row then UploadId ∷ [] else row.params
+-- the row that a request is of by its query: that of pieces, where it is a piece
+abbrev pub row_by : List Pair → Row → Row
+row_by query row = if is_piece query row then record row { kind = UploadPiece; params = UploadId ∷ [] } else row

@@ -9,19 +9,19 @@ use Rattle.gcs_meaning.specs.declared.reason.Reason.{Reason}
 use Rattle.gcs_meaning.specs.declared.reason.Reason.TheVariants.{NotBuilt, Invalid}
 use Rattle.gcs_route.specs.declared.fault.RouteFault.{RouteFault}
 use Rattle.gcs_route.specs.declared.fault.RouteFault.TheVariants.{Refused, NoMemory}
+use Rattle.gcs_route.specs.declared.kind.RequestKind.{RequestKind}
 use Rattle.gcs_route.specs.declared.table.Masking.{Masking}
 use Rattle.gcs_route.specs.declared.table.Masking.TheVariants.{Unread, Tested, Kept}
 use Rattle.gcs_route.specs.declared.table.Param.{Param}
 use Rattle.gcs_route.specs.Table.{Row}
 use Rattle.gcs_route.specs.Params.{Refuses}
 use Rattle.gcs_route.specs.Masks.{RefusesMask}
-use Rattle.gcs_route.specs.Pieces.{params_of}
-use Rattle.gcs_route.specs.Built.{is_unbuilt}
+use Rattle.gcs_route.specs.Served.{is_unserved}
 
--- a test: that requests of a row are served, of a bucket's name, of an object's name, of the query's text, of a
+-- a test: that requests of a kind are served, of a bucket's name, of an object's name, of the query's text, of a
 -- parameter, of the mask
 pub data Test : Type 0 where
-  built : Row → Test
+  served : RequestKind → Test
   bucket : List ℕ → Test
   object : List ℕ → Test
   query : Test
@@ -48,16 +48,16 @@ mask_tests Tested = mask ∷ []
 mask_tests Kept = []
 
 -- the parameters in the order of the row, and the mask
-abbrev pub value_tests : Row → List ℕ → List Test
-value_tests row text = map param (params_of (pairs_of text) row) ++ mask_tests row.masking
+abbrev pub value_tests : Row → List Test
+value_tests row = map param row.params ++ mask_tests row.masking
 
 -- all tests of a row, in their order
-abbrev pub tests : Row → List (List ℕ) → List ℕ → List Test
-tests row segments text = built row ∷ name_tests row.path segments ++ query ∷ value_tests row text
+abbrev pub tests : Row → List (List ℕ) → List Test
+tests row segments = served row.kind ∷ name_tests row.path segments ++ query ∷ value_tests row
 
 -- the test of a request with this query fails for that reason
 abbrev pub Fails : List ℕ → Test → Reason → Type 0
-Fails text (built row) reason = (reason ≡ NotBuilt) × (is_unbuilt (pairs_of text) row ≡ true)
+Fails text (served kind) reason = (reason ≡ NotBuilt) × (is_unserved (pairs_of text) kind ≡ true)
 Fails text (bucket name) reason = (reason ≡ Invalid Bucket) × ¬ IsBucketName name
 Fails text (object name) reason = (reason ≡ Invalid Object) × ¬ IsObjectName name
 Fails text query reason = (reason ≡ Invalid Query) × ((n : ℕ) × IsFirstBad text n)

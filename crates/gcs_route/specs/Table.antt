@@ -1,6 +1,8 @@
 -- The rows of the interface: method, path, and parameters in the order of their tests (Cloud Storage JSON API, the HTTP
 -- requests of "Buckets" and "Objects").
 use Rattle.std.specs.Prelude.{ℕ, List, [], ◌∷◌, ◌++◌, map, codes}
+use Rattle.gcs_route.specs.declared.kind.RequestKind.{RequestKind}
+use Rattle.gcs_route.specs.declared.kind.RequestKind.TheVariants.{BucketInsert, BucketList, BucketGet, BucketPatch, BucketUpdate, BucketDelete, BucketLock, BucketRestore, ObjectList, ObjectGet, ObjectPatch, ObjectUpdate, ObjectDelete, ObjectCompose, ObjectRewrite, ObjectCopy, ObjectRestore, Upload, UploadPiece, UploadCancel, Download}
 use Rattle.gcs_route.specs.declared.table.Route.{Route}
 use Rattle.gcs_route.specs.declared.table.Masking.{Masking}
 use Rattle.gcs_route.specs.declared.table.Masking.TheVariants.{Unread, Tested, Kept}
@@ -9,16 +11,16 @@ use Rattle.gcs_route.specs.declared.table.Param.TheVariants.{Alt, SoftOfGet, Gen
 use Rattle.gcs_route.specs.declared.table.Condition.TheVariants.{GenerationIs, GenerationNot, MetagenerationIs, MetagenerationNot}
 use Rattle.gcs_route.specs.Paths.{segments}
 
--- a row: its number, method, path (cut at each `/`), parameters, and what it does with a mask
+-- a row: its request, method, path (cut at each `/`), parameters, and what it does with a mask
 pub record Row : Type 0 where
-  pub number : ℕ
+  pub kind : RequestKind
   pub method : List ℕ
   pub path : List (List ℕ)
   pub params : List Param
   pub masking : Masking
 
-abbrev pub row : ℕ → List ℕ → List ℕ → List Param → Masking → Row
-row number method path params masking = record { number = number; method = method; path = segments path; params = params; masking = masking }
+abbrev pub row : RequestKind → List ℕ → List ℕ → List Param → Masking → Row
+row kind method path params masking = record { kind = kind; method = method; path = segments path; params = params; masking = masking }
 
 -- the four preconditions, in their order
 abbrev pub pre : List Param
@@ -35,31 +37,31 @@ source = SourceGeneration ∷ IfSource GenerationIs ∷ IfSource GenerationNot �
 -- all rows; `{bucket}` and `{object}` stand for names
 unfoldable pub routes : List Row
 routes =
-    row 1 (codes "POST") (codes "/storage/v1/b") [] Tested
-    ∷ row 2 (codes "GET") (codes "/storage/v1/b") (Prefix ∷ MaxResults ∷ PageToken ∷ []) Kept
-    ∷ row 3 (codes "GET") (codes "/storage/v1/b/{bucket}") bucket_pre Tested
-    ∷ row 4 (codes "PATCH") (codes "/storage/v1/b/{bucket}") bucket_pre Tested
-    ∷ row 5 (codes "PUT") (codes "/storage/v1/b/{bucket}") bucket_pre Tested
-    ∷ row 6 (codes "DELETE") (codes "/storage/v1/b/{bucket}") bucket_pre Unread
-    ∷ row 7 (codes "POST") (codes "/storage/v1/b/{bucket}/lockRetentionPolicy") (NeededMetageneration ∷ []) Tested
-    ∷ row 8 (codes "POST") (codes "/storage/v1/b/{bucket}/restore") (NeededGeneration ∷ []) Tested
-    ∷ row 9 (codes "GET") (codes "/storage/v1/b/{bucket}/o")
+    row BucketInsert (codes "POST") (codes "/storage/v1/b") [] Tested
+    ∷ row BucketList (codes "GET") (codes "/storage/v1/b") (Prefix ∷ MaxResults ∷ PageToken ∷ []) Kept
+    ∷ row BucketGet (codes "GET") (codes "/storage/v1/b/{bucket}") bucket_pre Tested
+    ∷ row BucketPatch (codes "PATCH") (codes "/storage/v1/b/{bucket}") bucket_pre Tested
+    ∷ row BucketUpdate (codes "PUT") (codes "/storage/v1/b/{bucket}") bucket_pre Tested
+    ∷ row BucketDelete (codes "DELETE") (codes "/storage/v1/b/{bucket}") bucket_pre Unread
+    ∷ row BucketLock (codes "POST") (codes "/storage/v1/b/{bucket}/lockRetentionPolicy") (NeededMetageneration ∷ []) Tested
+    ∷ row BucketRestore (codes "POST") (codes "/storage/v1/b/{bucket}/restore") (NeededGeneration ∷ []) Tested
+    ∷ row ObjectList (codes "GET") (codes "/storage/v1/b/{bucket}/o")
     (Prefix ∷ Delimiter ∷ StartOffset ∷ EndOffset ∷ IncludeTrailingDelimiter ∷ Versions ∷ SoftOfList ∷ MaxResults ∷ PageToken ∷ []) Kept
-    ∷ row 10 (codes "GET") (codes "/storage/v1/b/{bucket}/o/{object}") (Alt ∷ SoftOfGet ∷ GenerationOfGet ∷ pre) Tested
-    ∷ row 11 (codes "PATCH") (codes "/storage/v1/b/{bucket}/o/{object}") (Generation ∷ pre) Tested
-    ∷ row 12 (codes "PUT") (codes "/storage/v1/b/{bucket}/o/{object}") (Generation ∷ pre) Tested
-    ∷ row 13 (codes "DELETE") (codes "/storage/v1/b/{bucket}/o/{object}") (Generation ∷ pre) Unread
-    ∷ row 14 (codes "POST") (codes "/storage/v1/b/{bucket}/o/{object}/compose") (If GenerationIs ∷ If MetagenerationIs ∷ []) Tested
-    ∷ row 15 (codes "POST") (codes "/storage/v1/b/{bucket}/o/{object}/rewriteTo/b/{bucket}/o/{object}")
+    ∷ row ObjectGet (codes "GET") (codes "/storage/v1/b/{bucket}/o/{object}") (Alt ∷ SoftOfGet ∷ GenerationOfGet ∷ pre) Tested
+    ∷ row ObjectPatch (codes "PATCH") (codes "/storage/v1/b/{bucket}/o/{object}") (Generation ∷ pre) Tested
+    ∷ row ObjectUpdate (codes "PUT") (codes "/storage/v1/b/{bucket}/o/{object}") (Generation ∷ pre) Tested
+    ∷ row ObjectDelete (codes "DELETE") (codes "/storage/v1/b/{bucket}/o/{object}") (Generation ∷ pre) Unread
+    ∷ row ObjectCompose (codes "POST") (codes "/storage/v1/b/{bucket}/o/{object}/compose") (If GenerationIs ∷ If MetagenerationIs ∷ []) Tested
+    ∷ row ObjectRewrite (codes "POST") (codes "/storage/v1/b/{bucket}/o/{object}/rewriteTo/b/{bucket}/o/{object}")
     (source ++ pre ++ MaxBytesRewrittenPerCall ∷ RewriteToken ∷ []) Kept
-    ∷ row 16 (codes "POST") (codes "/storage/v1/b/{bucket}/o/{object}/copyTo/b/{bucket}/o/{object}") (source ++ pre) Tested
-    ∷ row 17 (codes "POST") (codes "/storage/v1/b/{bucket}/o/{object}/restore") (NeededGeneration ∷ pre) Tested
-    ∷ row 18 (codes "POST") (codes "/upload/storage/v1/b/{bucket}/o") (UploadType ∷ Name ∷ ContentEncoding ∷ pre) Tested
-    ∷ row 19 (codes "PUT") (codes "/upload/storage/v1/b/{bucket}/o") (UploadId ∷ []) Tested
-    ∷ row 20 (codes "DELETE") (codes "/upload/storage/v1/b/{bucket}/o") (UploadId ∷ []) Tested
-    ∷ row 21 (codes "GET") (codes "/download/storage/v1/b/{bucket}/o/{object}") (AltOfDownload ∷ SoftOfDownload ∷ GenerationOfGet ∷ pre) Unread
+    ∷ row ObjectCopy (codes "POST") (codes "/storage/v1/b/{bucket}/o/{object}/copyTo/b/{bucket}/o/{object}") (source ++ pre) Tested
+    ∷ row ObjectRestore (codes "POST") (codes "/storage/v1/b/{bucket}/o/{object}/restore") (NeededGeneration ∷ pre) Tested
+    ∷ row Upload (codes "POST") (codes "/upload/storage/v1/b/{bucket}/o") (UploadType ∷ Name ∷ ContentEncoding ∷ pre) Tested
+    ∷ row UploadPiece (codes "PUT") (codes "/upload/storage/v1/b/{bucket}/o") (UploadId ∷ []) Tested
+    ∷ row UploadCancel (codes "DELETE") (codes "/upload/storage/v1/b/{bucket}/o") (UploadId ∷ []) Tested
+    ∷ row Download (codes "GET") (codes "/download/storage/v1/b/{bucket}/o/{object}") (AltOfDownload ∷ SoftOfDownload ∷ GenerationOfGet ∷ pre) Unread
     ∷ []
 
 -- the row that an entry of the code's table is
 abbrev pub route_of : Route → Row
-route_of r = record { number = r.row; method = r.method.now; path = map (λ s. s.now) r.path.now; params = r.params.now; masking = r.masking }
+route_of r = record { kind = r.kind; method = r.method.now; path = map (λ s. s.now) r.path.now; params = r.params.now; masking = r.masking }

@@ -1,6 +1,13 @@
 //! What a request asks for.
+ghost use Rattle.std.specs.Prelude.{◌≡◌, IfOk};
+ghost use Rattle.gcs_route.specs.Calls.{IsSameCall};
+ghost use Rattle.gcs_route.specs.Kinds.{kind_of};
+ghost use Rattle.gcs_route.specs.Masks.{IsSameMask};
+
+use crate::kind::{RequestKind, kind_of};
 use gcs_fields::Mask;
-use gcs_meaning::{BucketName, List, Name, Pre, Text};
+use gcs_meaning::{BucketName, Copied, List, Name, Pre, Text};
+use std::alloc::AllocError;
 
 /// How an upload is made.
 ///
@@ -20,9 +27,22 @@ pub enum MaskPart {
     /// The query gives none, or the row does not read it.
     Absent,
     Is(Mask),
-    /// Of the rows 2, 9 and 15 alone, which test a token before the mask: the text is no mask, and the longest front
-    /// of it that begins some mask has this many bytes.
+    /// Of lists and rewrites alone, which test a token before the mask: the text is no mask, and the longest front of
+    /// it that begins some mask has this many bytes.
     Fault(u32),
+}
+
+impl MaskPart {
+    /// The same mask, or fault, or none. `Err`: no memory.
+    pub fn copy(&self) -> Result<MaskPart, AllocError>
+        ensures { IfOk result (λ made. IsSameMask made self.now) }
+    {
+        match self {
+            MaskPart::Absent => Ok(MaskPart::Absent),
+            MaskPart::Is(mask) => Ok(MaskPart::Is(mask.copy()?)),
+            MaskPart::Fault(place) => Ok(MaskPart::Fault(*place)),
+        }
+    }
 }
 
 /// A row of the interface with its names and parameters. A parameter that the row does not have, or that the query
@@ -67,4 +87,45 @@ pub struct Call {
     pub encoding: Option<Text>,
     /// `fields`
     pub mask: MaskPart,
+}
+
+impl Call {
+    /// Which request it is.
+    pub fn kind(&self) -> RequestKind
+        ensures { result ≡ kind_of self.now.row }
+    {
+        kind_of(self.row)
+    }
+
+    /// The same call, up to how its mask is held. `Err`: no memory.
+    pub fn copy(&self) -> Result<Call, AllocError>
+        ensures { IfOk result (λ made. IsSameCall made self.now) }
+    {
+        Ok(Call {
+            row: self.row,
+            buckets: self.buckets.copy()?,
+            objects: self.objects.copy()?,
+            generation: self.generation,
+            pre: self.pre,
+            source_generation: self.source_generation,
+            source_pre: self.source_pre,
+            soft: self.soft,
+            media: self.media,
+            versions: self.versions,
+            trailing: self.trailing,
+            prefix: self.prefix.copy()?,
+            delimiter: self.delimiter.copy()?,
+            start: self.start.copy()?,
+            end: self.end.copy()?,
+            most: self.most,
+            page_token: self.page_token.copy()?,
+            rewrite_token: self.rewrite_token.copy()?,
+            per_call: self.per_call,
+            upload: self.upload,
+            upload_id: self.upload_id,
+            name: self.name.copy()?,
+            encoding: self.encoding.copy()?,
+            mask: self.mask.copy()?,
+        })
+    }
 }

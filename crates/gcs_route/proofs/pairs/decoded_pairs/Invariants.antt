@@ -1,7 +1,7 @@
 use Rattle.std.proofs.Common.{◌≡◌, map, ◌++◌}
 use Rattle.form_urlencoded.specs.Parse.{raw_pairs_left}
 use Rattle.gcs_query.specs.Query.{decoded_pair, pairs_of}
-use Rattle.gcs_route.proofs.built.decoded_pairs.Given as goal
+use Rattle.gcs_route.proofs.pairs.decoded_pairs.Given as goal
 
 -- the pairs so far, and those that are left
 abbrev pub invariant-loop-key : goal.invariant-loop-key

@@ -1,6 +1,6 @@
 use Rattle.std.proofs.Common.{◌≡◌, drop, map}
-use Rattle.gcs_route.specs.Built.{is_among}
-use Rattle.gcs_route.proofs.built.is_among.Given as goal
+use Rattle.gcs_route.specs.Served.{is_among}
+use Rattle.gcs_route.proofs.served.is_among.Given as goal
 
 -- no text so far is that of the bytes
 abbrev pub invariant-loop-text : goal.invariant-loop-text

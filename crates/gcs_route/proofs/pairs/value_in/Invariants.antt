@@ -1,6 +1,6 @@
 use Rattle.std.proofs.Common.{◌≡◌, drop, fold, bytes_eq, if◌then◌else◌}
 use Rattle.gcs_query.specs.Values.{value_of}
-use Rattle.gcs_route.proofs.built.value_of.Given as goal
+use Rattle.gcs_route.proofs.pairs.value_in.Given as goal
 
 -- the pairs that are left lead from the value found so far to the last one
 abbrev pub invariant-loop-name : goal.invariant-loop-name
