@@ -1,0 +1,61 @@
+//! A text that is written.
+ghost use Rattle.std.specs.Prelude.{◌≡◌, ◌++◌, ◌-◌, length, min, take, drop};
+ghost use Rattle.gcs_reply.specs.Outgoing.{outgoing_bytes};
+
+use crate::excerpt::Excerpt;
+use gcs_chunks::Chunks;
+
+/// A text that is written.
+#[derive(Drop)]
+pub enum Outgoing {
+    Text(Vec<u8>),
+    Fixed(&'static [u8]),
+    /// A head, and then bytes of a content, which are read as they are given out.
+    Media { head: Vec<u8>, body: Excerpt },
+}
+
+impl Outgoing {
+    /// How many bytes.
+    pub fn len(&self) -> u64
+        ensures { result ≡ length (outgoing_bytes self.now) }
+    {
+        match self {
+            Outgoing::Text(bytes) => bytes.len() as u64,
+            Outgoing::Fixed(bytes) => bytes.len() as u64,
+            Outgoing::Media { head, body } => head.len() as u64 + body.len(),
+        }
+    }
+
+    /// Writes the bytes from `at` on, as many as fit and are there, and tells how many.
+    pub fn read(&self, chunks: &Chunks, at: u64, into: &mut [u8]) -> usize
+        ensures count { result ≡ min (length into.old) (length (outgoing_bytes self.now) - at) }
+        ensures bytes { into.new ≡ take result (drop at (outgoing_bytes self.now)) ++ drop result into.old }
+    {
+        match self {
+            Outgoing::Text(bytes) => copy_from(bytes, at, into),
+            Outgoing::Fixed(bytes) => copy_from(bytes, at, into),
+            Outgoing::Media { head, body } => read_both(head, body, chunks, at, into),
+        }
+    }
+}
+
+// Writes bytes of the head and then of the body, from `at` on, as many as fit and are there.
+fn read_both(head: &[u8], body: &Excerpt, chunks: &Chunks, at: u64, into: &mut [u8]) -> usize
+    ensures count { result ≡ min (length into.old) (length (head.now ++ body.now) - at) }
+    ensures bytes { into.new ≡ take result (drop at (head.now ++ body.now)) ++ drop result into.old }
+{
+    let count = copy_from(head, at, into);
+    let past = at.saturating_sub(head.len() as u64);
+    count + body.read(chunks, past, &mut into[count..])
+}
+
+// Writes the bytes from `at` on, as many as fit and are there.
+fn copy_from(bytes: &[u8], at: u64, into: &mut [u8]) -> usize
+    ensures count { result ≡ min (length into.old) (length bytes.now - at) }
+    ensures bytes { into.new ≡ take result (drop at bytes.now) ++ drop result into.old }
+{
+    let rest = &bytes[at.min(bytes.len() as u64) as usize..];
+    let count = rest.len().min(into.len());
+    into[..count].copy_from_slice(&rest[..count]);
+    count
+}

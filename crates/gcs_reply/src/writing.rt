@@ -1,0 +1,97 @@
+//! Replies as they are written.
+ghost use Rattle.std.specs.Prelude.{◌≡◌, IfOk};
+ghost use Rattle.gcs_http_out.specs.Head.{IsStatus};
+ghost use Rattle.gcs_reply.specs.Outgoing.{outgoing_bytes};
+ghost use Rattle.gcs_reply.specs.Replies.{bare_text, fault_text, fixed_of, memory_text, refusal_text, reply_text};
+
+use crate::form::Form;
+use crate::json::{bucket_reply, buckets_reply, page_reply, refusal_reply, resource_reply};
+use crate::media::media_reply;
+use crate::outgoing::Outgoing;
+use crate::reply_fields::ReplyFields;
+use gcs_http_in::FrameFault;
+use gcs_http_out::{Ending, Fixed, FixedText, fixed};
+use gcs_meaning::Reason;
+use gcs_rewrite::{Reply, Request};
+use std::alloc::{AllocError, Global};
+
+/// The text of a reply. `Err`: no memory.
+#[tactic(auto, unfolding(crate::specs::Replies::reply_text))]
+pub fn write_reply(
+    alloc: Global,
+    form: Form,
+    request: &Request,
+    reply: &Reply,
+) -> Result<Outgoing, AllocError>
+    ensures { IfOk result (λ outgoing. outgoing_bytes outgoing ≡ reply_text form request.now reply.now) }
+{
+    match reply {
+        Reply::Refused(reason) => write_refusal(alloc, form, reason),
+        Reply::Object(row, settings) => resource_reply(alloc, form, request, row, settings),
+        Reply::Media { row, part } => media_reply(alloc, form, row, *part),
+        Reply::Bucket(row) => bucket_reply(alloc, form, request, row),
+        Reply::Buckets(rows, token) => buckets_reply(alloc, form, request, rows, token),
+        Reply::Page(page) => page_reply(alloc, form, request, page),
+        Reply::NoContent => bare_reply(alloc, form, 204),
+        Reply::NotModified => bare_reply(alloc, form, 304),
+    }
+}
+
+/// The text of a refusal, with the size of a content in which a range can't be met. `Err`: no memory.
+pub fn write_refusal(alloc: Global, form: Form, reason: &Reason) -> Result<Outgoing, AllocError>
+    ensures { IfOk result (λ outgoing. outgoing_bytes outgoing ≡ refusal_text form reason.now) }
+{
+    refusal_reply(alloc, form, reason)
+}
+
+// A head alone, without a length. `Err`: no memory.
+fn bare_reply(alloc: Global, form: Form, status: u16) -> Result<Outgoing, AllocError>
+    requires { IsStatus status }
+    ensures { IfOk result (λ outgoing. outgoing_bytes outgoing ≡ bare_text form status) }
+{
+    let fields = ReplyFields::new(alloc);
+    let head = fields.into_head(alloc, status, None, form.ending)?;
+    Ok(Outgoing::Text(head))
+}
+
+/// The constant reply of want of memory, before any step of a request or after one.
+pub fn memory_reply(form: Form, stepped: bool) -> Outgoing
+    ensures { outgoing_bytes result ≡ memory_text form stepped }
+{
+    let what = if stepped {
+        FixedText::WantOfMemoryDone
+    } else {
+        FixedText::WantOfMemory
+    };
+    Outgoing::Fixed(fixed(Fixed {
+        what,
+        ending: form.ending,
+        head_only: form.head_only,
+    }))
+}
+
+/// The constant reply of a fault. It closes the connection.
+pub fn fault_reply(fault: FrameFault) -> Outgoing
+    ensures { outgoing_bytes result ≡ fault_text fault }
+{
+    Outgoing::Fixed(fixed(Fixed {
+        what: fixed_of(fault),
+        ending: Ending::Closes,
+        head_only: false,
+    }))
+}
+
+fn fixed_of(fault: FrameFault) -> FixedText
+    ensures { result ≡ fixed_of fault }
+{
+    match fault {
+        FrameFault::HeadTooLong => FixedText::HeadTooLong,
+        FrameFault::TooManyFields => FixedText::TooManyFields,
+        FrameFault::BadHead => FixedText::BadHead,
+        FrameFault::BadCoding => FixedText::BadCoding,
+        FrameFault::BothLengths => FixedText::BothLengths,
+        FrameFault::BadLength => FixedText::BadLength,
+        FrameFault::BodyTooLong => FixedText::BodyTooLong,
+        FrameFault::BadChunk => FixedText::BadChunk,
+    }
+}

@@ -1,0 +1,65 @@
+-- What a request says of the answer to its command.
+use Rattle.std.specs.Prelude.{ℕ, ◌==◌, ◌&&◌, ◌||◌, Bool, true, false, length, Option, Some, None, if◌then◌else◌}
+use Rattle.gcs_meaning.specs.declared.reason.Key.{Key}
+use Rattle.gcs_meaning.specs.declared.reason.Key.TheVariants.{IfGenerationNotMatch, IfMetagenerationNotMatch}
+use Rattle.gcs_meaning.specs.declared.reason.Reason.{Reason}
+use Rattle.gcs_meaning.specs.declared.reason.Reason.TheVariants.{Condition, NotBuilt, Unsatisfiable}
+use Rattle.gcs_meaning.specs.declared.settings.Settings.{Settings}
+use Rattle.gcs_meaning.specs.declared.version.Row.{Row}
+use Rattle.gcs_meaning.specs.declared.command.Answer.{Answer}
+use Rattle.gcs_meaning.specs.declared.command.Answer.TheVariants as answer
+use Rattle.gcs_meaning.specs.Content.{bytes_in}
+use Rattle.gcs_route.specs.declared.call.Call.{Call}
+use Rattle.gcs_rewrite.specs.declared.range.Range.{Range}
+use Rattle.gcs_rewrite.specs.declared.request.Given.{Given}
+use Rattle.gcs_rewrite.specs.declared.request.Given.TheVariants as given
+use Rattle.gcs_rewrite.specs.declared.replies.Reply.{Reply}
+use Rattle.gcs_rewrite.specs.declared.replies.Reply.TheVariants as reply
+use Rattle.gcs_rewrite.specs.Ranges.{part_in}
+
+-- a part of a version's bytes, or that the range can't be met (RFC 9110, 15.5.17)
+abbrev pub part_reply : Option (ℕ × ℕ) → Row → Reply
+part_reply None row = reply.Refused (Unsatisfiable (length (bytes_in row.hashed)))
+part_reply (Some part) row = reply.Media row (Some part)
+
+-- what a read of a version's bytes says, by the range that it asks for
+unfoldable pub range_reply : Option Range → Row → Reply
+range_reply None row = reply.Media row None
+range_reply (Some range) row = part_reply (part_in range (length (bytes_in row.hashed))) row
+
+-- the range that is given, if one is
+abbrev pub range_given : Given → Option Range
+range_given (given.Read range) = range
+range_given _ = None
+
+-- a version that is answered: its bytes where they are asked for, else its resource
+abbrev pub object_reply : Call → Given → Row → Settings → Reply
+object_reply call given row settings = if call.media then range_reply (range_given given) row else reply.Object row settings
+
+-- the requests of the row read a bucket or a version
+abbrev pub is_read : ℕ → Bool
+is_read row = (row == 3) || ((row == 10) || (row == 21))
+
+-- a precondition that holds where the number is another one
+abbrev pub is_not_match : Key → Bool
+is_not_match IfGenerationNotMatch = true
+is_not_match IfMetagenerationNotMatch = true
+is_not_match _ = false
+
+-- what is read has the very number that the reader has (RFC 9110, 13.1.2)
+abbrev pub is_unchanged : ℕ → Reason → Bool
+is_unchanged row (Condition which wanted found) = is_read row && is_not_match which
+is_unchanged row _ = false
+
+-- what a call on the row says of a refusal
+abbrev pub refused_reply : ℕ → Reason → Reply
+refused_reply row reason = if is_unchanged row reason then reply.NotModified else reply.Refused reason
+
+-- what a call says of the answer to its command. Such a command gets no answer of another kind
+abbrev pub reply_of : Call → Given → Answer → Reply
+reply_of call given (answer.Object row settings) = object_reply call given row settings
+reply_of call given (answer.Bucket row) = reply.Bucket row
+reply_of call given answer.Empty = reply.NoContent
+reply_of call given (answer.Page page) = reply.Page page
+reply_of call given (answer.Refused reason) = refused_reply call.row reason
+reply_of call given _ = reply.Refused NotBuilt

@@ -1,0 +1,174 @@
+//! Lists of objects and of buckets: what is asked for a page, and what is said of the buckets that sixteen shards list.
+ghost use Rattle.std.specs.Prelude.{◌≡◌, ◌≤◌, IfOk, OnOk, length, take, insert};
+ghost use Rattle.gcs_meaning.specs.Order.{is_below};
+ghost use Rattle.gcs_rewrite.specs.Lists.{buckets_script, list_of_shard, listed_in, name_asked, query_of, token_after, unit_asked, view_asked, with_all_listed, with_listed};
+
+use crate::moves::Move;
+use crate::replies::Reply;
+use gcs_listing::{TokenFault, read_bucket_token, read_token, write_bucket_token};
+use gcs_meaning::{Answer, BucketRow, Command, Copied, List, PageQuery, Text, Unit, View};
+use gcs_route::Call;
+use std::alloc::{AllocError, Global};
+use std::cmp::Ordering;
+
+/// How many shards a store has.
+const SHARDS: usize = 16;
+
+/// What a list of objects asks for. `Err`: no memory.
+pub fn query_of(alloc: Global, call: &Call) -> Result<PageQuery, AllocError>
+    ensures { IfOk result (λ query. query ≡ query_of call.now) }
+{
+    Ok(PageQuery {
+        view: view_asked(call.soft, call.versions),
+        prefix: call.prefix.copy()?,
+        delimiter: call.delimiter.copy()?,
+        start: call.start.copy()?,
+        end: call.end.copy()?,
+        trailing: call.trailing,
+        most: call.most,
+        after: unit_asked(alloc, &call.page_token)?,
+    })
+}
+
+fn view_asked(soft: bool, versions: bool) -> View
+    ensures { result ≡ view_asked soft versions }
+{
+    if soft {
+        View::Soft
+    } else if versions {
+        View::Versions
+    } else {
+        View::Live
+    }
+}
+
+fn unit_asked(alloc: Global, token: &Option<Text>) -> Result<Option<Unit>, AllocError>
+    ensures { IfOk result (λ unit. unit ≡ unit_asked token.now) }
+{
+    let Some(token) = token else {
+        return Ok(None);
+    };
+    match read_token(alloc, token.as_bytes()) {
+        Ok(unit) => Ok(Some(unit)),
+        Err(TokenFault::Bad) => Ok(None),
+        Err(TokenFault::NoMemory) => Err(AllocError),
+    }
+}
+
+/// The next move of a list of buckets: it asks each shard in turn, and then says the page. `Err`: no memory.
+pub fn list_buckets(alloc: Global, call: &Call, answers: &[Answer]) -> Result<Move, AllocError>
+    ensures { IfOk result (λ next. next ≡ buckets_script call.now answers.now) }
+{
+    if answers.len() < SHARDS {
+        return ask_shard(alloc, call, answers.len() as u8);
+    }
+    let rows = listed_in(alloc, answers)?;
+    let reply = say_buckets(alloc, call.most, rows)?;
+    Ok(Move::Say(reply))
+}
+
+fn ask_shard(alloc: Global, call: &Call, shard: u8) -> Result<Move, AllocError>
+    ensures { IfOk result (λ next. next ≡ Move.Ask shard (list_of_shard call.now shard)) }
+{
+    let prefix = call.prefix.copy()?;
+    let after = name_asked(alloc, &call.page_token)?;
+    let command = Command::BucketList {
+        shard,
+        prefix,
+        after,
+        most: call.most.min(1000) + 1,
+    };
+    Ok(Move::Ask { shard, command })
+}
+
+fn name_asked(alloc: Global, token: &Option<Text>) -> Result<Text, AllocError>
+    ensures { IfOk result (λ name. name ≡ name_asked token.now) }
+{
+    let Some(token) = token else {
+        return Ok(Text::new(alloc));
+    };
+    match read_bucket_token(alloc, token.as_bytes()) {
+        Ok(name) => {
+            let text = Text::from_str(alloc, name.as_str());
+            drop(name);
+            text
+        }
+        Err(TokenFault::Bad) => Ok(Text::new(alloc)),
+        Err(TokenFault::NoMemory) => Err(AllocError),
+    }
+}
+
+// The buckets that the answers list, by name.
+fn listed_in(alloc: Global, answers: &[Answer]) -> Result<Vec<BucketRow>, AllocError>
+    ensures { IfOk result (λ rows. rows.items ≡ listed_in answers.now) }
+{
+    let mut listed = Vec::new(alloc);
+    for answer in answers {
+        if let Answer::Buckets(rows) = answer {
+            add_all(&mut listed, rows.as_slice())?;
+        }
+    }
+    Ok(listed)
+}
+
+// Adds copies of these buckets, each at its place.
+fn add_all(listed: &mut Vec<BucketRow>, rows: &[BucketRow]) -> Result<(), AllocError>
+    ensures { OnOk result (listed.new.items ≡ with_all_listed rows.now listed.old.items) }
+{
+    for row in rows {
+        let row = row.copy()?;
+        add(listed, row)?;
+    }
+    Ok(())
+}
+
+// Adds a bucket before the first whose name comes after its own.
+fn add(listed: &mut Vec<BucketRow>, row: BucketRow) -> Result<(), AllocError>
+    ensures { OnOk result (listed.new.items ≡ with_listed row listed.old.items) }
+{
+    let place = place_of(listed, &row);
+    listed.insert(place, row)?;
+    Ok(())
+}
+
+fn place_of(listed: &[BucketRow], row: &BucketRow) -> usize
+    ensures within { result ≤ length listed.now }
+    ensures place { with_listed row.now listed.now ≡ insert listed.now result row.now }
+{
+    for (place, other) in listed.iter().enumerate() {
+        if is_below(row.name.as_bytes(), other.name.as_bytes()) {
+            return place;
+        }
+    }
+    listed.len()
+}
+
+fn is_below(name: &[u8], other: &[u8]) -> bool
+    ensures { result ≡ is_below name.now other.now }
+{
+    match name.cmp(other) {
+        Ordering::Less => true,
+        Ordering::Equal | Ordering::Greater => false,
+    }
+}
+
+// A page of these buckets, with the token of its last one where more are left.
+fn say_buckets(alloc: Global, most: u32, mut rows: Vec<BucketRow>) -> Result<Reply, AllocError>
+    ensures { IfOk result (λ reply. reply ≡ Reply.Buckets (take most rows.items) (token_after most rows.items)) }
+{
+    let token = token_after(alloc, most as usize, &rows)?;
+    rows.truncate(most as usize);
+    Ok(Reply::Buckets(List::from_vec(rows), token))
+}
+
+fn token_after(alloc: Global, most: usize, rows: &[BucketRow]) -> Result<Option<Text>, AllocError>
+    ensures { IfOk result (λ token. token ≡ token_after most rows.now) }
+{
+    if rows.len() <= most {
+        return Ok(None);
+    }
+    match rows.get(most.saturating_sub(1)) {
+        Some(last) => Ok(Some(write_bucket_token(alloc, &last.name)?)),
+        None => Ok(None),
+    }
+}

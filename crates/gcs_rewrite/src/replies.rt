@@ -1,0 +1,122 @@
+//! What a request says: its reply, and which one it is by the answer to its command.
+ghost use Rattle.std.specs.Prelude.{◌≡◌, IfOk};
+ghost use Rattle.gcs_rewrite.specs.Answered.{is_not_match, is_read, is_unchanged, object_reply, range_given, range_reply, refused_reply, reply_of};
+
+use crate::range::Range;
+use crate::request::Given;
+use gcs_meaning::{Answer, BucketRow, Copied, Key, List, Page, Reason, Row, Settings, Text};
+use gcs_route::Call;
+use std::alloc::AllocError;
+
+/// What a request says.
+#[derive(Drop)]
+pub enum Reply {
+    Refused(Reason),
+    Bucket(BucketRow),
+    /// A page of buckets, and the token of the next one, where more are left.
+    Buckets(List<BucketRow>, Option<Text>),
+    Object(Row, Settings),
+    Page(Page),
+    /// The bytes of a version, or the part of them from the first of these places up to and with the last.
+    Media { row: Row, part: Option<(u64, u64)> },
+    NoContent,
+    /// What is read has the very number that the reader has.
+    NotModified,
+}
+
+/// What a call says of the answer to its command. `Err`: no memory.
+pub fn say(call: &Call, given: &Given, answer: &Answer) -> Result<Reply, AllocError>
+    ensures { IfOk result (λ reply. reply ≡ reply_of call.now given.now answer.now) }
+{
+    match answer {
+        Answer::Object(row, settings) => say_object(call, given, row, settings),
+        Answer::Bucket(row) => Ok(Reply::Bucket(row.copy()?)),
+        Answer::Empty => Ok(Reply::NoContent),
+        Answer::Page(page) => Ok(Reply::Page(page.copy()?)),
+        Answer::Refused(reason) => Ok(say_refusal(call.row, *reason)),
+        _ => Ok(Reply::Refused(Reason::NotBuilt)),
+    }
+}
+
+// What a call on the row says of a refusal.
+fn say_refusal(row: u32, reason: Reason) -> Reply
+    ensures { result ≡ refused_reply row reason }
+{
+    if is_unchanged(row, reason) {
+        Reply::NotModified
+    } else {
+        Reply::Refused(reason)
+    }
+}
+
+// Whether what is read has the very number that the reader has (RFC 9110, 13.1.2).
+fn is_unchanged(row: u32, reason: Reason) -> bool
+    ensures { result ≡ is_unchanged row reason }
+{
+    match reason {
+        Reason::Condition { which, .. } => is_read(row) && is_not_match(which),
+        _ => false,
+    }
+}
+
+// Whether the requests of a row read a bucket or a version.
+fn is_read(row: u32) -> bool
+    ensures { result ≡ is_read row }
+{
+    matches!(row, 3 | 10 | 21)
+}
+
+fn is_not_match(which: Key) -> bool
+    ensures { result ≡ is_not_match which }
+{
+    matches!(
+        which,
+        Key::IfGenerationNotMatch | Key::IfMetagenerationNotMatch
+    )
+}
+
+// A version as a read of bytes, or any other call, says it.
+fn say_object(
+    call: &Call,
+    given: &Given,
+    row: &Row,
+    settings: &Settings,
+) -> Result<Reply, AllocError>
+    ensures { IfOk result (λ reply. reply ≡ object_reply call.now given.now row.now settings.now) }
+{
+    if call.media {
+        return range_reply(range_given(given), row);
+    }
+    let row = row.copy()?;
+    let settings = settings.copy()?;
+    Ok(Reply::Object(row, settings))
+}
+
+fn range_given(given: &Given) -> Option<Range>
+    ensures { result ≡ range_given given.now }
+{
+    match given {
+        Given::Read { range } => *range,
+        _ => None,
+    }
+}
+
+// What a read of a version's bytes says, by the range that it asks for.
+#[tactic(auto, unfolding(crate::specs::Answered::range_reply))]
+fn range_reply(range: Option<Range>, row: &Row) -> Result<Reply, AllocError>
+    ensures { IfOk result (λ reply. reply ≡ range_reply range row.now) }
+{
+    let Some(range) = range else {
+        let row = row.copy()?;
+        return Ok(Reply::Media { row, part: None });
+    };
+    let size = row.hashed.content().len();
+    let Some(part) = range.part_in(size) else {
+        return Ok(Reply::Refused(Reason::Unsatisfiable { size }));
+    };
+    let row = row.copy()?;
+    Ok(Reply::Media {
+        row,
+        part: Some(part),
+    })
+}
