@@ -5,7 +5,7 @@ use Rattle.std.specs.List.{list_all}
 use Rattle.std.proofs.lemmas.List.{append_cancel_left, take-append-drop, take_all, drop_all, length-take, length-drop}
 use Rattle.std.proofs.lemmas.Bool.Decides.{nat_tests}
 use Rattle.gcs_io.specs.declared.Failed.{Failed}
-use Rattle.gcs_io.specs.Told.{Gains, is_end}
+use Rattle.gcs_io.specs.Told.{Gains, Loses, is_end}
 use Rattle.gcs_http_in.specs.declared.limits.Limits.{Limits}
 use Rattle.gcs_http_in.specs.Lines.{is_end_byte}
 use Rattle.gcs_http_in.specs.Message.{Message, AllKeep, IsSpelled, Spells}
@@ -26,23 +26,7 @@ use Rattle.gcs_session.specs.Writing.{IsWritten}
 use Rattle.gcs_session.proofs.Drops.{nothing-left}
 use Rattle.gcs_session.proofs.Serving.{one-served, serves-append, serves-kept}
 use Rattle.gcs_session.proofs.Steps.{grows_refl, grows_trans}
-use Rattle.gcs_session.proofs.Tellings.{gains-none, gains-trans}
-
--- a served connection, where nothing was done
-pub none-served : (limits : Limits) (caller : ℕ) (a : Outside) (ended : Bool) → IsServed limits caller a a ended NoMemory
-none-served limits caller a ended = record {
-  input = [];
-  output = [];
-  moments = [];
-  moved = record { read = gains-none a.taken; wrote = gains-none a.written; clocked = gains-none a.given; grows = grows_refl a.saw; sound = λ l. l };
-  messages = [];
-  rest = [];
-  text = [];
-  spelled = (refl, refl);
-  served = (refl, refl, λ n. refl);
-  written = refl;
-  ends = tt;
-}
+use Rattle.gcs_session.proofs.Tellings.{gains-none, gains-trans, loses-none, loses-trans}
 
 -- nothing has come yet
 pub along-start : (limits : Limits) (caller : ℕ) (a : Outside) (s : Session) → IsAllowed limits → limits_in s ≡ limits → IsSession s [] [] [] [] → IsAlong limits caller a a s []
@@ -53,14 +37,15 @@ along-start limits caller a s allowed are begun = record {
   moments = [];
   messages = [];
   text = [];
-  moved = record { read = gains-none a.taken; wrote = gains-none a.written; clocked = gains-none a.given; grows = grows_refl a.saw; sound = λ l. l };
+  moved = record { lost = loses-none a.left; read = gains-none a.taken; wrote = gains-none a.written; clocked = gains-none a.given; grows = grows_refl a.saw; sound = λ l. l };
   session = begun;
   served = (refl, refl, λ n. refl);
 }
 
 -- a piece was read
-pub along-read : (limits : Limits) (caller : ℕ) (a b : Outside) (taken : Option (List ℕ)) (s : Session) (piece : List ℕ) → Gains b.taken taken piece → IsAlong limits caller a b s [] → IsAlong limits caller a (record b { taken = taken }) s piece
-along-read limits caller a b taken s piece read x = record {
+pub along-read : (limits : Limits) (caller : ℕ) (a b : Outside) (left taken : Option (List ℕ)) (s : Session) (piece : List ℕ) → Loses b.left left piece → Gains b.taken taken piece → IsAlong limits caller a b s []
+    → IsAlong limits caller a (record b { left = left; taken = taken }) s piece
+along-read limits caller a b left taken s piece lost read x = record {
   allowed = x.allowed;
   limits_are = x.limits_are;
   fed = x.fed;
@@ -68,6 +53,7 @@ along-read limits caller a b taken s piece read x = record {
   messages = x.messages;
   text = x.text;
   moved = record {
+    lost = subst (λ l. Loses a.left left (l ++ piece)) (append-nil x.fed) (loses-trans a.left b.left left (x.fed ++ []) piece x.moved.lost lost);
     read = subst (λ l. Gains a.taken taken (l ++ piece)) (append-nil x.fed) (gains-trans a.taken b.taken taken (x.fed ++ []) piece x.moved.read read);
     wrote = x.moved.wrote;
     clocked = x.moved.clocked;
@@ -84,6 +70,7 @@ seen_of b = record { given = b.given; saw = b.saw; own = b.own }
 
 -- source and sink stayed as they were
 pub record IsInside (b c : Outside) : Type 0 where
+  pub left : c.left ≡ b.left
   pub taken : c.taken ≡ b.taken
   pub written : c.written ≡ b.written
 
@@ -100,14 +87,15 @@ along-fed limits caller a b c s t piece fed x inside are f =
     let whole : (x.fed ++ take fed.taken piece) ++ drop fed.taken piece ≡ x.fed ++ piece = append_assoc x.fed (take fed.taken piece) (drop fed.taken piece) ∙ ap (λ (l : List ℕ). x.fed ++ l) (take-append-drop fed.taken piece) in
     record {
       moved = record {
+        lost = subst (λ l. Loses a.left c.left l) (sym whole) (subst (λ o. Loses a.left o (x.fed ++ piece)) (sym inside.left) x.moved.lost);
         read = subst (λ l. Gains a.taken c.taken l) (sym whole) (subst (λ o. Gains a.taken o (x.fed ++ piece)) (sym inside.taken) x.moved.read);
         wrote = subst (λ o. Gains a.written o x.text) (sym inside.written) x.moved.wrote;
         clocked = gains-trans a.given b.given c.given x.moments f.moments x.moved.clocked f.clocked;
-        grows = grows_trans a.saw b.saw c.saw x.moved.grows f.grows;
-        sound = λ l. f.sound (x.moved.sound l);
+        grows = grows_trans a.saw b.saw c.saw x.moved.grows f.goes_on.grows;
+        sound = λ l. f.goes_on.sound (x.moved.sound l);
       };
       session = f.session;
-      served = serves-append limits x.messages f.told x.moments f.moments b.saw c.saw caller (lengths a.own) (lengths b.own) (lengths c.own) x.text f.reply f.grows x.served
+      served = serves-append limits x.messages f.told x.moments f.moments b.saw c.saw caller (lengths a.own) (lengths b.own) (lengths c.own) x.text f.reply f.goes_on.grows x.served
           (subst (λ l. Serves l f.told f.moments c.saw caller (lengths b.own) f.reply (lengths c.own)) are f.served);
     }
 
@@ -136,6 +124,7 @@ along-more limits caller a c s fed left messages text reply moments allowed are 
       messages = messages;
       text = text ++ reply;
       moved = record {
+        lost = subst (λ l. Loses a.left c.left (fed ++ l)) last x.moved.lost;
         read = subst (λ l. Gains a.taken c.taken (fed ++ l)) last x.moved.read;
         wrote = subst (Gains a.written c.written) same x.moved.wrote;
         clocked = x.moved.clocked;
@@ -194,6 +183,7 @@ along-drained limits caller a c written s t fed left messages text reply moments
       messages = messages;
       text = text ++ reply;
       moved = record {
+        lost = x.moved.lost;
         read = x.moved.read;
         wrote = subst (λ l. Gains a.written written (text ++ l)) same (gains-trans a.written c.written written text w x.moved.wrote wrote);
         clocked = x.moved.clocked;
@@ -226,6 +216,7 @@ along-broken limits caller a b c written s t piece fed w more x inside f are wro
       output = x.text ++ w;
       moments = x.moments ++ f.moments;
       moved = record {
+        lost = y.moved.lost;
         read = y.moved.read;
         wrote = gains-trans a.written c.written written x.text w y.moved.wrote wrote;
         clocked = y.moved.clocked;
@@ -251,7 +242,7 @@ along-broken limits caller a b c written s t piece fed w more x inside f are wro
         text_is = ap (λ (l : List ℕ). x.text ++ l) (waits ∙ part);
         output_is = refl;
         some = some;
-        first_served = serves-kept limits x.messages x.moments b.saw c.saw caller (lengths a.own) x.text (lengths b.own) (lengths b.own) f.grows (λ n. refl) x.served;
+        first_served = serves-kept limits x.messages x.moments b.saw c.saw caller (lengths a.own) x.text (lengths b.own) (lengths b.own) f.goes_on.grows (λ n. refl) x.served;
         last_answered = one-served limits told.0 f.moments c.saw caller (lengths b.own) (w ++ more) (lengths c.own)
             (subst (λ l. Serves limits (told.0 ∷ []) f.moments c.saw caller (lengths b.own) l (lengths c.own)) (waits ∙ part)
             (subst (λ ms. Serves limits ms f.moments c.saw caller (lengths b.own) f.reply (lengths c.own)) told.1 served));
@@ -264,31 +255,9 @@ along-broken limits caller a b c written s t piece fed w more x inside f are wro
         let size : length w + length more ≡ 0 = sym (length-append w more) ∙ ap (length {A = ℕ}) (sym e ∙ none) in
         omega (arith, size, some)
 
--- the source failed
-pub along-fault : (limits : Limits) (caller : ℕ) (a b : Outside) (taken : Option (List ℕ)) (s : Session) → Gains b.taken taken [] → IsAlong limits caller a b s [] → s.closed ≡ false → IsServed limits caller a (record b { taken = taken }) false ReadFault
-unfolding along-read
-along-fault limits caller a b taken s read x stays =
-    let keep : AllKeep x.messages = subst (λ c. IsClosedBy c x.messages) stays x.session.0.closed in
-    let whole = reads s.framer x.fed x.messages x.session.0.current x.session.0.stands x.session.1 in
-    let y = along-read limits caller a b taken s [] read x in
-    let one : (rest : List ℕ) × Spells limits (x.fed ++ []) x.messages rest = (whole.0, subst (λ l. Spells limits l x.messages whole.0) (sym (append-nil x.fed)) (subst (λ l. Spells l x.fed x.messages whole.0) x.limits_are whole.1)) in
-    record {
-      input = x.fed ++ [];
-      output = x.text;
-      moments = x.moments;
-      moved = y.moved;
-      messages = x.messages;
-      rest = one.0;
-      text = x.text;
-      spelled = one.1;
-      served = x.served;
-      written = refl;
-      ends = (refl, keep);
-    }
-
 -- a piece was fed, and more bytes are wanted
 pub fed-more : (limits : Limits) (caller : ℕ) (a b c : Outside) (s t : Session) (piece : List ℕ) (fed : Fed) (x : IsAlong limits caller a b s piece) → IsInside b c
-    → IsFed caller (seen_of b) (seen_of c) t piece fed x.fed x.messages x.text x.text → limits_in t ≡ limits_in s → IsWanted t piece fed → fed.want ≡ More
+    → IsFed caller (seen_of b) (seen_of c) t piece fed x.fed x.messages x.text x.text → limits_in t ≡ limits_in s → IsWanted s t piece fed → fed.want ≡ More
     → (z : IsAlong limits caller a c t []) × (t.closed ≡ false) × (length z.fed ≡ length x.fed + length piece)
 unfolding along-more
 fed-more limits caller a b c s t piece fed x inside f same wanted more =
@@ -301,7 +270,7 @@ fed-more limits caller a b c s t piece fed x inside f same wanted more =
 
 -- a piece was fed, and the connection is closed
 pub fed-close : (limits : Limits) (caller : ℕ) (a b c : Outside) (s t : Session) (piece : List ℕ) (fed : Fed) (x : IsAlong limits caller a b s piece) → IsInside b c
-    → IsFed caller (seen_of b) (seen_of c) t piece fed x.fed x.messages x.text x.text → limits_in t ≡ limits_in s → IsWanted t piece fed → fed.want ≡ Close → (ended : Bool) → IsServed limits caller a c ended Closed
+    → IsFed caller (seen_of b) (seen_of c) t piece fed x.fed x.messages x.text x.text → limits_in t ≡ limits_in s → IsWanted s t piece fed → fed.want ≡ Close → (ended : Bool) → IsServed limits caller a c ended Closed
 fed-close limits caller a b c s t piece fed x inside f same wanted close ended =
     let want : IsWantOf (waiting_in t) t.closed Close = subst (IsWantOf (waiting_in t) t.closed) close wanted.want in
     along-close limits caller a c t (x.fed ++ take fed.taken piece) (drop fed.taken piece) (x.messages ++ f.told) x.text f.reply (x.moments ++ f.moments) (same ∙ x.limits_are)
@@ -309,7 +278,7 @@ fed-close limits caller a b c s t piece fed x inside f same wanted close ended =
 
 -- a piece was fed, and the reply was written whole: there is one message more
 pub fed-drained : (limits : Limits) (caller : ℕ) (a b c : Outside) (written : Option (List ℕ)) (s t u : Session) (piece left w : List ℕ) (fed : Fed) (x : IsAlong limits caller a b s piece) → IsInside b c
-    → IsFed caller (seen_of b) (seen_of c) t piece fed x.fed x.messages x.text x.text → limits_in t ≡ limits_in s → IsWanted t piece fed → fed.want ≡ Drain
+    → IsFed caller (seen_of b) (seen_of c) t piece fed x.fed x.messages x.text x.text → limits_in t ≡ limits_in s → IsWanted s t piece fed → fed.want ≡ Drain
     → IsDrained t u → Gains c.written written w → w ≡ waiting_in t → left ≡ drop fed.taken piece
     → (z : IsAlong limits caller a (record c { written = written }) u left) × (length z.messages ≡ length x.messages + 1) × (length z.fed + length left ≡ length x.fed + length piece)
 unfolding along-drained
@@ -325,97 +294,40 @@ fed-drained limits caller a b c written s t u piece left w fed x inside f same w
       omega (arith, ap (length {A = ℕ}) over, length-append x.fed (take fed.taken piece), length-take fed.taken piece, length-drop fed.taken piece, wanted.within),
     )
 
--- what was written where the write did well: all
-pub written-whole : {A E : Type 0} (text w : List ℕ) (r : Result A E) → is_err r ≡ false → IsWritten text w r → w ≡ text
-written-whole text w (Ok a) ok x = x
-written-whole text w (Err e) ok x = absurd (cc)
-
--- and where it failed: a proper prefix
-pub written-part : {A E : Type 0} (text w : List ℕ) (r : Result A E) → is_err r ≡ true → IsWritten text w r → (more : List ℕ) × (text ≡ w ++ more) × (0 < length more)
-written-part text w (Ok a) bad x = absurd (cc)
-written-part text w (Err e) bad x = x
-
--- what holds of a result that is no error
-pub on-ok : {A E : Type 0} (P : Type 0) (r : Result A E) → is_err r ≡ false → OnOk r P → P
-on-ok P (Ok a) ok x = x
-on-ok P (Err e) ok x = absurd (cc)
-
--- the source ended
-pub along-ended : (limits : Limits) (caller : ℕ) (a b : Outside) (s : Session) (started : Bool) → IsAlong limits caller a b s [] → s.closed ≡ false
-    → ((bytes : List ℕ) (messages : List Message) (text drained rest : List ℕ) → IsSession s bytes messages text drained → AllKeep messages → Spells (limits_in s) bytes messages rest → started ≡ list_all is_end_byte rest)
-    → IsServed limits caller a b true (if started then Ended else Cut)
-along-ended limits caller a b s started x stays starts =
-    let keep : AllKeep x.messages = subst (λ c. IsClosedBy c x.messages) stays x.session.0.closed in
-    let whole = reads s.framer x.fed x.messages x.session.0.current x.session.0.stands x.session.1 in
-    let starts-is : started ≡ list_all is_end_byte whole.0 = starts x.fed x.messages x.text x.text whole.0 x.session keep whole.1 in
-    let spelled : Spells limits (x.fed ++ []) x.messages whole.0 = subst (λ l. Spells limits l x.messages whole.0) (sym (append-nil x.fed)) (subst (λ l. Spells l x.fed x.messages whole.0) x.limits_are whole.1) in
-    by-start started x whole.0 starts-is keep spelled
-  where
-    by-start : (started : Bool) (x : IsAlong limits caller a b s []) → (rest : List ℕ) → started ≡ list_all is_end_byte rest → AllKeep x.messages → Spells limits (x.fed ++ []) x.messages rest → IsServed limits caller a b true (if started then Ended else Cut)
-    by-start true x rest is keep spelled = record {
-      input = x.fed ++ [];
-      output = x.text;
-      moments = x.moments;
-      moved = x.moved;
-      messages = x.messages;
-      rest = rest;
-      text = x.text;
-      spelled = spelled;
-      served = x.served;
-      written = refl;
-      ends = (refl, keep, sym is);
-    }
-    by-start false x rest is keep spelled = record {
-      input = x.fed ++ [];
-      output = x.text;
-      moments = x.moments;
-      moved = x.moved;
-      messages = x.messages;
-      rest = rest;
-      text = x.text;
-      spelled = spelled;
-      served = x.served;
-      written = refl;
-      ends = (refl, keep, sym is);
-    }
-
--- what a piece leaves where the connection has ended
-pub along-over : (end : SessionEnd) (taken : ℕ) (limits : Limits) (caller : ℕ) (a b : Outside) (s : Session) → AlongTo (Some end) taken limits caller a b s → IsServed limits caller a b false end
-along-over Closed taken limits caller a b s x = x false
-along-over WriteFault taken limits caller a b s x = x
-along-over Ended taken limits caller a b s x = absurd x
-along-over Cut taken limits caller a b s x = absurd x
-along-over ReadFault taken limits caller a b s x = absurd x
-along-over NoMemory taken limits caller a b s x = absurd x
-
--- a buffer that was filled anew holds what filled it
-pub refilled : (into items : List ℕ) (len : ℕ) → len ≡ length into → length into ≡ length items → take len (into ++ drop (length into) items) ≡ into
-refilled into items len whole same =
-    let none : drop (length into) items ≡ [] = drop_all (length into) items (omega (arith, same)) in
-    ap (λ (l : List ℕ). take len (into ++ l)) none ∙ ap (take len) (append-nil into) ∙ take_all len into (omega (arith, whole))
-
--- a read of nothing into a block is the end
-pub read-ended : (r : Result ℕ Failed) (n : ℕ) (into : List ℕ) → r ≡ Ok n → n ≡ 0 → length into ≡ 65536 → is_end r into ≡ true
-read-ended r n into is none size = ap (λ (x : Result ℕ Failed). is_end x into) (is ∙ ap Ok none) ∙ ap (λ k. nat_lt 0 k) size
-
--- a read of something isn't
-pub read-some : (r : Result ℕ Failed) (n : ℕ) (into : List ℕ) → r ≡ Ok n → 0 < n → is_end r into ≡ false
-read-some r n into is some =
-    let other : nat_eq n 0 ≡ false = grind (arith, nat_tests) in
-    ap (λ (x : Result ℕ Failed). is_end x into) is ∙ ap (λ b. b && nat_lt 0 (length into)) other
-
--- nor is a fault
-pub read-failed : (r : Result ℕ Failed) (e : Failed) (into : List ℕ) → r ≡ Err e → is_end r into ≡ false
-read-failed r e into is = ap (λ (x : Result ℕ Failed). is_end x into) is
-
 -- while the connection is open all messages keep it
 pub kept-open : (limits : Limits) (caller : ℕ) (a b : Outside) (s : Session) (x : IsAlong limits caller a b s []) → s.closed ≡ false → AllKeep x.messages
 kept-open limits caller a b s x stays = subst (λ c. IsClosedBy c x.messages) stays x.session.0.closed
 
 -- a piece was read, with the caller by another name
-pub along-read-by : (limits : Limits) (caller n : ℕ) (a b : Outside) (taken : Option (List ℕ)) (s : Session) (count : ℕ) (into piece : List ℕ) → n ≡ caller → piece ≡ into → Gains b.taken taken (take count into) → (x : IsAlong limits caller a b s [])
-    → (y : IsAlong limits n a (record b { taken = taken }) s (take count piece)) × (length y.fed ≡ length x.fed)
+pub along-read-by : (limits : Limits) (caller n : ℕ) (a b : Outside) (left taken : Option (List ℕ)) (s : Session) (count : ℕ) (into piece : List ℕ) → n ≡ caller → piece ≡ into
+    → Loses b.left left (take count into) → Gains b.taken taken (take count into) → (x : IsAlong limits caller a b s [])
+    → (y : IsAlong limits n a (record b { left = left; taken = taken }) s (take count piece)) × (length y.fed ≡ length x.fed)
 unfolding along-read
-along-read-by limits caller n a b taken s count into piece same is read x =
+along-read-by limits caller n a b left taken s count into piece same is lost read x =
+    let gone : Loses b.left left (take count piece) = subst (λ l. Loses b.left left (take count l)) (sym is) lost in
     let got : Gains b.taken taken (take count piece) = subst (λ l. Gains b.taken taken (take count l)) (sym is) read in
-    subst (λ m. (y : IsAlong limits m a (record b { taken = taken }) s (take count piece)) × (length y.fed ≡ length x.fed)) (sym same) (along-read limits caller a b taken s (take count piece) got x, refl)
+    subst (λ m. (y : IsAlong limits m a (record b { left = left; taken = taken }) s (take count piece)) × (length y.fed ≡ length x.fed)) (sym same)
+    (along-read limits caller a b left taken s (take count piece) gone got x, refl)
+
+-- the source failed
+pub along-fault : (limits : Limits) (caller : ℕ) (a b : Outside) (left taken : Option (List ℕ)) (s : Session) → Loses b.left left [] → Gains b.taken taken [] → IsAlong limits caller a b s [] → s.closed ≡ false
+    → IsServed limits caller a (record b { left = left; taken = taken }) false ReadFault
+unfolding along-read
+along-fault limits caller a b left taken s lost read x stays =
+    let keep : AllKeep x.messages = subst (λ c. IsClosedBy c x.messages) stays x.session.0.closed in
+    let whole = reads s.framer x.fed x.messages x.session.0.current x.session.0.stands x.session.1 in
+    let y = along-read limits caller a b left taken s [] lost read x in
+    let one : (rest : List ℕ) × Spells limits (x.fed ++ []) x.messages rest = (whole.0, subst (λ l. Spells limits l x.messages whole.0) (sym (append-nil x.fed)) (subst (λ l. Spells l x.fed x.messages whole.0) x.limits_are whole.1)) in
+    record {
+      input = x.fed ++ [];
+      output = x.text;
+      moments = x.moments;
+      moved = y.moved;
+      messages = x.messages;
+      rest = one.0;
+      text = x.text;
+      spelled = one.1;
+      served = x.served;
+      written = refl;
+      ends = (refl, keep);
+    }

@@ -6,27 +6,21 @@ use Rattle.gcs_http_in.specs.declared.limits.Limits.{Limits}
 use Rattle.gcs_http_in.specs.Head.{Head}
 use Rattle.gcs_http_in.specs.Message.{Message, whole, refused, keeps_of, AllKeep}
 use Rattle.gcs_http_in.specs.Stands.{Stands, limits_of}
-use Rattle.gcs_http_out.specs.declared.head.Ending.{Ending}
-use Rattle.gcs_http_out.specs.declared.reply.Fixed.{Fixed}
-use Rattle.gcs_http_out.specs.Head.{head_text}
-use Rattle.gcs_http_out.specs.Fixed.{fixed_text}
 use Rattle.gcs_meaning.specs.Desk.{Histories, AreUnmoved}
 use Rattle.gcs_session.specs.declared.session.Session.{Session}
 use Rattle.gcs_session.specs.declared.session.Fed.{Fed}
 use Rattle.gcs_session.specs.declared.session.Want.{Want}
-use Rattle.gcs_session.specs.declared.reply.Form.{Form}
-use Rattle.gcs_session.specs.declared.requests.Request.{Request}
-use Rattle.gcs_session.specs.declared.script.Reply.{Reply}
-use Rattle.gcs_session.specs.declared.script.Reply.TheVariants as reply
-use Rattle.gcs_session.specs.Replies.{bare_text, form_of, fault_text, memory_text, reply_text}
-use Rattle.gcs_session.specs.Running.{Grows, lengths}
+use Rattle.gcs_reply.specs.Form.{form_of}
+use Rattle.gcs_reply.specs.Replies.{fault_text}
+use Rattle.gcs_reply.proofs.Some.{fixed-some, refusal-some, reply-some}
+use Rattle.gcs_session.specs.Running.{lengths}
 use Rattle.gcs_session.specs.Served.{Answers, Replies, Serves}
-use Rattle.gcs_session.specs.Scripts.{Counts}
+use Rattle.gcs_session.specs.Asks.{Counts}
 use Rattle.gcs_session.specs.Session.{IsClosedBy, IsEndedBy, IsFed, IsReplied, IsSession, IsUnderWay, Seen, limits_in}
 use Rattle.gcs_session.specs.Unsent.{unsent_bytes}
 use Rattle.gcs_session.proofs.Gathering.{none-waiting}
 use Rattle.gcs_session.proofs.Serving.{serves-from, serves-one}
-use Rattle.gcs_session.proofs.Steps.{grows_same, grows_trans, lists-same, same-lengths}
+use Rattle.gcs_session.proofs.Steps.{goes_on-same, goes_on-trans, same-lengths}
 use Rattle.gcs_session.proofs.Tellings.{gains-none}
 
 -- nothing more was read
@@ -44,8 +38,8 @@ fed-quiet caller a b s piece fed bytes messages text drained given same x = reco
   moments = [];
   reply = [];
   clocked = subst (λ o. Gains a.given o []) (sym given) (gains-none a.given);
-  grows = grows_same a.saw b.saw same.seen;
-  sound = lists-same caller a.saw a.own b.saw b.own same;
+  goes_on = goes_on-same caller a.saw a.own b.saw b.own same;
+  alone = λ some. absurd (some refl);
   quiet = λ e. same;
   served = (refl, refl, same-lengths a.own b.own same.mine);
   session = nothing-told s (bytes ++ take fed.taken piece) (bytes ++ take fed.taken piece) messages text drained refl x;
@@ -86,6 +80,10 @@ ended-session s t bytes messages m text drained reply x none framer coming close
       none-waiting t.framer bytes (messages ++ m ∷ []) stands,
     )
 
+-- nothing waits: all was given out
+given-out : (text drained waiting : List ℕ) → text ≡ drained ++ waiting → waiting ≡ [] → drained ≡ text
+given-out text drained waiting is none = sym (is ∙ ap (λ (l : List ℕ). drained ++ l) none ∙ append-nil drained)
+
 -- a message was answered
 pub fed-end : (caller : ℕ) (a b c : Seen) (s t : Session) (piece : List ℕ) (fed : Fed) (bytes : List ℕ) (messages : List Message) (m : Message) (text drained : List ℕ)
     → b.given ≡ a.given → AreUnmoved a.saw a.own b.saw b.own → IsEndedBy s (bytes ++ take fed.taken piece) (messages ++ m ∷ []) text drained → unsent_bytes s.unsent ≡ [] → AllKeep messages
@@ -96,8 +94,8 @@ fed-end caller a b c s t piece fed bytes messages m text drained given same x no
   moments = r.moments;
   reply = unsent_bytes t.unsent;
   clocked = subst (λ o. Gains o c.given r.moments) given r.clocked;
-  grows = grows_trans a.saw b.saw c.saw (grows_same a.saw b.saw same.seen) r.grows;
-  sound = λ l. r.sound (lists-same caller a.saw a.own b.saw b.own same l);
+  goes_on = goes_on-trans caller a.saw a.own b.saw b.own c.saw c.own (goes_on-same caller a.saw a.own b.saw b.own same) r.goes_on;
+  alone = λ some. given-out text drained (unsent_bytes s.unsent) x.waits none;
   quiet = λ e. absurd (cc);
   served = serves-from (limits_in t) (m ∷ []) r.moments c.saw caller (lengths a.own) (lengths b.own) (unsent_bytes t.unsent) (lengths c.own) (same-lengths a.own b.own same.mine)
       (serves-one (limits_in t) m r.moments c.saw caller (lengths b.own) (unsent_bytes t.unsent) (lengths c.own) r.answers);
@@ -114,40 +112,19 @@ fed-fault caller a b s t piece fed bytes messages fault text drained given same 
   moments = [];
   reply = fault_text fault;
   clocked = subst (λ o. Gains a.given o []) (sym given) (gains-none a.given);
-  grows = grows_same a.saw b.saw same.seen;
-  sound = lists-same caller a.saw a.own b.saw b.own same;
+  goes_on = goes_on-same caller a.saw a.own b.saw b.own same;
+  alone = λ some. given-out text drained (unsent_bytes s.unsent) x.waits none;
   quiet = λ e. absurd (cc);
   served = serves-one (limits_in t) (refused fault) [] b.saw caller (lengths a.own) (fault_text fault) (lengths b.own) (refl, refl, same-lengths a.own b.own same.mine);
   session = ended-session s t (bytes ++ take fed.taken piece) messages (refused fault) text drained (fault_text fault) x none framer coming closed unsent keep;
 }
 
 -- no reply is empty
-head-some : (status : ℕ) (fields : List (List ℕ × List ℕ)) (size : Option ℕ) (ending : Ending) (more : List ℕ) → head_text status fields size ending ++ more ≢ []
-unfolding head_text
-head-some status fields size ending more e = cc
-
-bare-some : (form : Form) (status : ℕ) → bare_text form status ≢ []
-unfolding head_text
-bare-some form status e = cc
-
-pub fixed-some : (f : Fixed) → fixed_text f ≢ []
-unfolding fixed_text
-fixed-some f e = head-some _ _ _ _ _ e
-
-pub reply-some : (form : Form) (q : Request) (reply : Reply) → reply_text form q reply ≢ []
-reply-some form q reply.NoContent e = bare-some form 204 e
-reply-some form q reply.NotModified e = bare-some form 304 e
-reply-some form q (reply.Refused reason) e = head-some _ _ _ _ _ e
-reply-some form q (reply.Object row settings) e = head-some _ _ _ _ _ e
-reply-some form q (reply.Bucket row) e = head-some _ _ _ _ _ e
-reply-some form q (reply.Buckets rows token) e = head-some _ _ _ _ _ e
-reply-some form q (reply.Page page) e = head-some _ _ _ _ _ e
-reply-some form q (reply.Media row part) e = head-some _ _ _ _ _ e
-
 replies-some : (limits : Limits) (head : Head) (body : List ℕ) (keeps : Bool) (moment : ℕ) (h : Histories) (caller : ℕ) (from : Counts) (text : List ℕ) (to : Counts) → Replies limits head body keeps moment h caller from text to → text ≢ []
 replies-some limits head body keeps moment h caller from text to (inl x) e = reply-some (form_of head keeps) x.request x.reply (sym x.text_is ∙ e)
-replies-some limits head body keeps moment h caller from text to (inr (inl x)) e = fixed-some _ (sym x.text_is ∙ e)
-replies-some limits head body keeps moment h caller from text to (inr (inr x)) e = fixed-some _ (sym x.text_is ∙ e)
+replies-some limits head body keeps moment h caller from text to (inr (inl x)) e = refusal-some (form_of head keeps) x.reason (sym x.text_is ∙ e)
+replies-some limits head body keeps moment h caller from text to (inr (inr (inl x))) e = fixed-some _ (sym x.text_is ∙ e)
+replies-some limits head body keeps moment h caller from text to (inr (inr (inr x))) e = fixed-some _ (sym x.text_is ∙ e)
 
 pub answer-some : (limits : Limits) (m : Message) (r : List ℕ) (h : Histories) (caller : ℕ) (from : Counts) (text : List ℕ) (to : Counts) → Answers limits m r h caller from text to → text ≢ []
 answer-some limits (whole head body keeps) r h caller from text to (moment, is, x) e = replies-some limits head body keeps moment h caller from text to x e

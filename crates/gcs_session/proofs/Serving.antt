@@ -4,7 +4,7 @@ use Rattle.gcs_http_in.specs.declared.limits.Limits.{Limits}
 use Rattle.gcs_http_in.specs.Head.{Head}
 use Rattle.gcs_http_in.specs.Message.{Message, whole, refused}
 use Rattle.gcs_meaning.specs.Desk.{Histories}
-use Rattle.gcs_session.specs.Scripts.{Counts, SameCounts}
+use Rattle.gcs_session.specs.Asks.{Counts, SameCounts}
 use Rattle.gcs_session.specs.Served.{Answers, Serves, Replies}
 use Rattle.gcs_session.specs.Running.{Grows}
 use Rattle.gcs_session.proofs.Steps.{Asks-from, Asks-kept}
@@ -21,15 +21,17 @@ replies-kept limits head body keeps moment h h' caller from text to to' g s (inl
   said = x.said;
   text_is = x.text_is;
 }
-replies-kept limits head body keeps moment h h' caller from text to to' g s (inr (inl x)) = inr (inl record { none = λ n. s n ∙ x.none n; text_is = x.text_is })
-replies-kept limits head body keeps moment h h' caller from text to to' g s (inr (inr x)) = inr (inr record {
+replies-kept limits head body keeps moment h h' caller from text to to' g s (inr (inl x)) =
+    inr (inl record { reason = x.reason; refusal = x.refusal; none = λ n. s n ∙ x.none n; text_is = x.text_is })
+replies-kept limits head body keeps moment h h' caller from text to to' g s (inr (inr (inl x))) = inr (inr (inl record { none = λ n. s n ∙ x.none n; text_is = x.text_is }))
+replies-kept limits head body keeps moment h h' caller from text to to' g s (inr (inr (inr x))) = inr (inr (inr record {
   request = x.request;
   call = x.call;
   first = x.first;
   further = x.further;
   asked = Asks-kept x.request [] (x.first ∷ x.further) moment h h' caller from to to' g s x.asked;
   text_is = x.text_is;
-})
+}))
 
 answers-kept : (limits : Limits) (m : Message) (r : List ℕ) (h h' : Histories) (caller : ℕ) (from : Counts) (text : List ℕ) (to to' : Counts) → Grows h h' → SameCounts to to' → Answers limits m r h caller from text to → Answers limits m r h' caller from text to'
 answers-kept limits (whole head body keeps) r h h' caller from text to to' g s (moment, e, x) = (moment, e, replies-kept limits head body keeps moment h h' caller from text to to' g s x)
@@ -52,15 +54,17 @@ replies-from limits head body keeps moment h caller from from' text to s (inl x)
   said = x.said;
   text_is = x.text_is;
 }
-replies-from limits head body keeps moment h caller from from' text to s (inr (inl x)) = inr (inl record { none = λ n. x.none n ∙ s n; text_is = x.text_is })
-replies-from limits head body keeps moment h caller from from' text to s (inr (inr x)) = inr (inr record {
+replies-from limits head body keeps moment h caller from from' text to s (inr (inl x)) =
+    inr (inl record { reason = x.reason; refusal = x.refusal; none = λ n. x.none n ∙ s n; text_is = x.text_is })
+replies-from limits head body keeps moment h caller from from' text to s (inr (inr (inl x))) = inr (inr (inl record { none = λ n. x.none n ∙ s n; text_is = x.text_is }))
+replies-from limits head body keeps moment h caller from from' text to s (inr (inr (inr x))) = inr (inr (inr record {
   request = x.request;
   call = x.call;
   first = x.first;
   further = x.further;
   asked = Asks-from x.request [] (x.first ∷ x.further) moment h caller from from' to s x.asked;
   text_is = x.text_is;
-})
+}))
 
 answers-from : (limits : Limits) (m : Message) (r : List ℕ) (h : Histories) (caller : ℕ) (from from' : Counts) (text : List ℕ) (to : Counts) → SameCounts from from' → Answers limits m r h caller from' text to → Answers limits m r h caller from text to
 answers-from limits (whole head body keeps) r h caller from from' text to s (moment, e, x) = (moment, e, replies-from limits head body keeps moment h caller from from' text to s x)

@@ -11,7 +11,7 @@ use Rattle.gcs_http_in.specs.declared.state.State.{State}
 use Rattle.gcs_http_in.specs.declared.state.State.TheVariants as state
 use Rattle.gcs_http_in.specs.Head.{Head, IsRequestText, stripped}
 use Rattle.gcs_http_in.specs.Lines.{is_end_byte, print_line, print_lines}
-use Rattle.gcs_http_in.specs.Message.{Message, IsGoodHeadText, AllKeep, Spells}
+use Rattle.gcs_http_in.specs.Message.{Message, IsGoodHeadText, Spells}
 use Rattle.gcs_http_in.specs.Progress.{Current}
 use Rattle.gcs_http_in.specs.Stands.{Stands, StandsIn, IsWaiting, limits_of}
 use Rattle.gcs_http_in.proofs.OneReading.{one_reading}
@@ -62,7 +62,7 @@ part-other f state.Head messages part it s = let e : Some it ≡ None = s.none i
 part-other f (state.Length count) messages part it s =
     ap (list_all is_end_byte) s.spelled ∙ good-other (limits_of f) s.front s.it.content s.it.head (framing.Length (length s.it.content + count)) s.good
 part-other f state.Chunked messages part it s = ap (list_all is_end_byte) s.spelled ∙ good-other (limits_of f) s.front s.text s.it.head framing.Chunked s.good
-part-other f state.Closed messages part it s = let e : Some it ≡ None = s.none in cc
+part-other f (state.Closed bare) messages part it s = let e : Some it ≡ None = s.none in cc
 
 -- what is left of the bytes where a message is under way
 pub under-way-other : (f : Framer) (bytes : List ℕ) (messages : List Message) (it : Current) (rest : List ℕ) → Stands f bytes messages (Some it) → (IsWaiting f → ⊥)
@@ -79,7 +79,7 @@ under-way-other f bytes messages it rest stands open_end spells =
 
 -- the answer of a framer, whether a message is under way or not
 pub start-by : (f : Framer) (bytes : List ℕ) (messages : List Message) (rest : List ℕ) (current : Option Current) (b : Bool) → Stands f bytes messages current → (IsWaiting f → ⊥)
-    → AllKeep messages → Spells (limits_of f) bytes messages rest → ((it : Current) → Stands f bytes messages (Some it) → b ≡ false)
+    → Spells (limits_of f) bytes messages rest → ((it : Current) → Stands f bytes messages (Some it) → b ≡ false)
     → (Stands f bytes messages None → b ≡ list_all is_end_byte rest) → b ≡ list_all is_end_byte rest
-start-by f bytes messages rest None b stands open_end keep spells inside between = between stands
-start-by f bytes messages rest (Some it) b stands open_end keep spells inside between = inside it stands ∙ sym (under-way-other f bytes messages it rest stands open_end spells)
+start-by f bytes messages rest None b stands open_end spells inside between = between stands
+start-by f bytes messages rest (Some it) b stands open_end spells inside between = inside it stands ∙ sym (under-way-other f bytes messages it rest stands open_end spells)

@@ -1,34 +1,17 @@
 -- Histories that grow, and runs of a script over them.
 use Rattle.std.proofs.Common.{◌≡◌, ◌≢◌, ◌⊎◌, inl, inr, ℕ, suc, ◌+◌, ◌<◌, nat_eq, not, Bool, true, false, Option, Some, None, List, [], ◌∷◌, ◌++◌, length, refl, ap, sym, subst, ◌∙◌, arith, add-zero, append-nil, append_assoc, length-append, eq-eqb, if◌then◌else◌}
-use Rattle.std.proofs.lemmas.Bool.{eqb-true, eqb-false, ltb-true, ne_eqb}
-use Rattle.std.specs.Prelude.{◌==◌, nat_lt, sum}
+use Rattle.std.proofs.lemmas.Bool.{eqb-true, eqb-false, ne_eqb}
 use Rattle.std.specs.List.{AllByRecursion}
-use Rattle.std.proofs.Math.Nat.{mod-lt}
 use Rattle.gcs_meaning.specs.declared.command.Answer.{Answer}
 use Rattle.gcs_meaning.specs.declared.command.Command.{Command}
-use Rattle.gcs_meaning.specs.declared.command.Command.TheVariants.{BucketGet, BucketDelete, Get}
 use Rattle.gcs_meaning.specs.declared.command.Entry.{Entry}
 use Rattle.gcs_meaning.specs.History.{AnswersAt, AreDistinct}
 use Rattle.gcs_meaning.specs.Desk.{Histories, AreLists, IsStepped, AreUnmoved, entries_of, AreNumbered, IsOf}
-use Rattle.gcs_meaning.specs.declared.reason.Reason.TheVariants.{NotBuilt}
-use Rattle.gcs_meaning.specs.Content.{Digested}
-use Rattle.gcs_meaning.specs.BucketChanges.{AreSetInLimits}
-use Rattle.gcs_meaning.specs.Moment.{shard_number}
-use Rattle.gcs_meaning.specs.Step.{IsBuilt}
-use Rattle.gcs_json.specs.declared.bucket.BucketBody.{BucketBody}
-use Rattle.gcs_route.specs.declared.call.Call.{Call}
-use Rattle.gcs_session.specs.declared.requests.Given.{Given}
-use Rattle.gcs_session.specs.declared.requests.Given.TheVariants as given
-use Rattle.gcs_session.specs.declared.requests.Request.{Request}
-use Rattle.gcs_session.specs.declared.requests.Request.TheVariants as request
-use Rattle.gcs_session.specs.declared.script.Reply.TheVariants as reply
-use Rattle.gcs_session.specs.declared.script.Move.{Move}
-use Rattle.gcs_session.specs.declared.script.Move.TheVariants.{Ask, Say}
-use Rattle.gcs_session.specs.Scripts.{script, single_script, buckets_reply, buckets_script, bucket_change_move, delete_move, list_move, first_move, insert_move, on_bucket, on_object, put_move, IsAskable, IsGivenInLimits, Asks, Counts, SameCounts, IsOneMore, is_some_step}
-use Rattle.gcs_session.specs.Lists.{list_of_shard, listed_in}
-use Rattle.gcs_session.specs.Replies.{memory_text}
-use Rattle.gcs_session.specs.Running.{lengths, Grows}
-use Rattle.gcs_session.proofs.Inserted.{inserted_in_limits}
+use Rattle.gcs_rewrite.specs.declared.moves.Move.TheVariants.{Ask}
+use Rattle.gcs_rewrite.specs.declared.request.Request.{Request}
+use Rattle.gcs_rewrite.specs.Scripts.{script}
+use Rattle.gcs_session.specs.Asks.{Asks, Counts, SameCounts, IsOneMore, is_some_step}
+use Rattle.gcs_session.specs.Running.{lengths, GoesOn, Grows}
 
 decide : (b : Bool) (m n : ℕ) → nat_eq m n ≡ b → (m ≡ n) ⊎ (m ≢ n)
 decide true m n e = inl (eqb-true m n e)
@@ -107,97 +90,6 @@ Asks-more q done (b ∷ ans) moment h h' caller from mid to shard command a g x 
   Asks-more q (done ++ b ∷ []) ans moment h h' caller x.2 mid to shard command a g x.6 (ap (script q) (append_assoc done (b ∷ []) ans) ∙ e) at one,
 )
 
--- a list of buckets asks sixteen times at most
-buckets_ask_few : (call : Call) (ans : List Answer) (shard : ℕ) (command : Command) (b : Bool) → nat_lt (length ans) 16 ≡ b
-    → (if b then Ask (length ans) (list_of_shard call (length ans)) else Say (buckets_reply call (listed_in ans))) ≡ Ask shard command → length ans < 16
-buckets_ask_few call ans shard command true few e = ltb-true (length ans) 16 few
-buckets_ask_few call ans shard command false few e = absurd (cc)
-
--- every other script asks once
-single_asks_once : (call : Call) (given : Given) (ans : List Answer) (shard : ℕ) (command : Command) → single_script call given ans ≡ Ask shard command → length ans < 16
-single_asks_once call given [] shard command e = omega arith
-single_asks_once call given (a ∷ ans) shard command e = absurd (cc)
-
-asks_few_by : (call : Call) (given : Given) (ans : List Answer) (shard : ℕ) (command : Command) (b : Bool)
-    → (if b then buckets_script call ans else single_script call given ans) ≡ Ask shard command → length ans < 16
-asks_few_by call given ans shard command true e = buckets_ask_few call ans shard command (nat_lt (length ans) 16) refl e
-asks_few_by call given ans shard command false e = single_asks_once call given ans shard command e
-
--- a script asks sixteen times at most
-pub asks_few : (q : Request) (ans : List Answer) (shard : ℕ) (command : Command) → script q ans ≡ Ask shard command → length ans < 16
-asks_few (request.Refused reason) ans shard command e = absurd (cc)
-asks_few (request.Asks call given) ans shard command e = asks_few_by call given ans shard command (call.row == 2) e
-
--- a shard may be asked for a command: it is one of the sixteen, the command belongs to it, and is built
-pub record MayBeAsked (shard : ℕ) (command : Command) : Type 0 where
-  pub within : shard < 16
-  pub belongs : IsOf shard command
-  pub built : IsBuilt command
-
--- what a script asks of a shard it may
-abbrev MoveMayBeAsked : Move → Type 0
-MoveMayBeAsked (Ask shard command) = MayBeAsked shard command
-MoveMayBeAsked (Say reply) = Unit {0}
-
--- a step under the first bucket of a path
-on_bucket_may : (buckets : List (List ℕ)) (command : List ℕ → Command) → ((bucket : List ℕ) → IsOf (shard_number bucket) (command bucket) × IsBuilt (command bucket))
-    → MoveMayBeAsked (on_bucket buckets command)
-on_bucket_may [] command is = tt
-on_bucket_may (bucket ∷ _) command is = record { within = mod-lt (sum bucket) (omega arith); belongs = (is bucket).0; built = (is bucket).1 }
-
-on_object_may : (call : Call) (names : List (List ℕ)) (command : List ℕ → List ℕ → Command)
-    → ((bucket name : List ℕ) → IsOf (shard_number bucket) (command bucket name) × IsBuilt (command bucket name)) → MoveMayBeAsked (on_object call names command)
-on_object_may call [] command is = tt
-on_object_may call (name ∷ _) command is = on_bucket_may call.buckets _ (λ bucket. is bucket name)
-
-put_may : (call : Call) (name kind : Option (List ℕ)) (hashed : Digested) → MoveMayBeAsked (put_move call name kind hashed)
-put_may call None kind hashed = tt
-put_may call (Some name) kind hashed = on_bucket_may call.buckets _ (λ bucket. ((refl, tt), tt))
-
-insert_may : (name : Option (List ℕ)) (body : BucketBody) → AreSetInLimits body.change → MoveMayBeAsked (insert_move name body)
-insert_may None body set = tt
-insert_may (Some bucket) body set = record { within = mod-lt (sum bucket) (omega arith); belongs = (refl, tt); built = inserted_in_limits body set }
-
-bucket_may : (call : Call) (body : BucketBody) (inserts : Bool) → AreSetInLimits body.change
-    → MoveMayBeAsked (if inserts then insert_move body.name body else bucket_change_move call body)
-bucket_may call body true set = insert_may body.name body set
-bucket_may call body false set = on_bucket_may call.buckets _ (λ bucket. ((refl, tt), set))
-
-bare_may : (call : Call) (reads deletes removes lists : Bool)
-    → MoveMayBeAsked (if reads then on_bucket call.buckets (λ bucket. BucketGet bucket call.pre)
-    else if deletes then on_bucket call.buckets (λ bucket. BucketDelete bucket call.pre) else if removes then delete_move call
-    else if lists then list_move call else Say (reply.Refused NotBuilt))
-bare_may call true deletes removes lists = on_bucket_may call.buckets _ (λ bucket. ((refl, tt), tt))
-bare_may call false true removes lists = on_bucket_may call.buckets _ (λ bucket. ((refl, tt), tt))
-bare_may call false false true lists = on_object_may call call.objects _ (λ bucket name. ((refl, tt), tt))
-bare_may call false false false true = on_bucket_may call.buckets _ (λ bucket. ((refl, tt), tt))
-bare_may call false false false false = tt
-
-first_may : (call : Call) (given : Given) → IsGivenInLimits given → MoveMayBeAsked (first_move call given)
-first_may call given.Nothing set = bare_may call (call.row == 3) (call.row == 6) (call.row == 13) (call.row == 9)
-first_may call (given.Read range) set = on_object_may call call.objects _ (λ bucket name. ((refl, tt), tt))
-first_may call (given.Whole kind hashed) set = put_may call call.name kind hashed
-first_may call (given.Bucket body) set = bucket_may call body (call.row == 1) set
-first_may call (given.Object body) set = on_object_may call call.objects _ (λ bucket name. ((refl, tt), tt))
-
-single_may : (call : Call) (given : Given) (ans : List Answer) → IsGivenInLimits given → MoveMayBeAsked (single_script call given ans)
-single_may call given [] set = first_may call given set
-single_may call given (a ∷ ans) set = tt
-
-buckets_may : (call : Call) (ans : List Answer) (b : Bool) → nat_lt (length ans) 16 ≡ b
-    → MoveMayBeAsked (if b then Ask (length ans) (list_of_shard call (length ans)) else Say (buckets_reply call (listed_in ans)))
-buckets_may call ans true few = record { within = ltb-true (length ans) 16 few; belongs = (tt, refl); built = tt }
-buckets_may call ans false few = tt
-
-move_may : (call : Call) (given : Given) (ans : List Answer) → IsGivenInLimits given → (b : Bool)
-    → MoveMayBeAsked (if b then buckets_script call ans else single_script call given ans)
-move_may call given ans set true = buckets_may call ans (nat_lt (length ans) 16) refl
-move_may call given ans set false = single_may call given ans set
-
-pub asks_may : (q : Request) (ans : List Answer) (shard : ℕ) (command : Command) → IsAskable q → script q ans ≡ Ask shard command → MayBeAsked shard command
-asks_may (request.Refused reason) ans shard command set e = absurd (cc)
-asks_may (request.Asks call given) ans shard command set e = subst MoveMayBeAsked e (move_may call given ans set (call.row == 2))
-
 entries_of-append : (caller : ℕ) (xs ys : List Entry) → entries_of caller (xs ++ ys) ≡ entries_of caller xs ++ entries_of caller ys
 entries_of-append caller [] ys = refl
 entries_of-append caller (e ∷ xs) ys =
@@ -246,32 +138,46 @@ lists-same caller saw own saw' own' x l = record {
 pub same-lengths : (own own' : Histories) → ((s : ℕ) → own' s ≡ own s) → SameCounts (lengths own) (lengths own')
 same-lengths own own' e = λ s. ap (length {A = Entry}) (e s)
 
+-- histories that stay go on, as those do in which a step was made, and those that go on from ones that go on
+pub goes_on-same : (caller : ℕ) (saw own saw' own' : Histories) → AreUnmoved saw own saw' own' → GoesOn caller saw own saw' own'
+goes_on-same caller saw own saw' own' x = record { grows = grows_same saw saw' x.seen; sound = lists-same caller saw own saw' own' x }
+
+goes_on-step : (caller : ℕ) (saw own saw' own' : Histories) (shard moment : ℕ) (command : Command) (a : Answer) → IsStepped caller saw own saw' own' shard moment command a → GoesOn caller saw own saw' own'
+goes_on-step caller saw own saw' own' shard moment command a x =
+    record { grows = grows_step caller saw own saw' own' shard moment command a x; sound = lists-step caller saw own saw' own' shard moment command a x }
+
+pub goes_on-trans : (caller : ℕ) (saw own saw' own' saw'' own'' : Histories) → GoesOn caller saw own saw' own' → GoesOn caller saw' own' saw'' own'' → GoesOn caller saw own saw'' own''
+goes_on-trans caller saw own saw' own' saw'' own'' p q = record { grows = grows_trans saw saw' saw'' p.grows q.grows; sound = λ l. q.sound (p.sound l) }
+
 -- a run so far
 pub record IsRun (q : Request) (moment caller : ℕ) (saw own saw' own' : Histories) (ans : List Answer) : Type 0 where
-  pub grows : Grows saw saw'
-  pub sound : AreLists caller saw own → AreLists caller saw' own'
+  pub goes_on : GoesOn caller saw own saw' own'
   pub asked : Asks q [] ans moment saw' caller (lengths own) (lengths own')
 
-pub run-step : (q : Request) (moment caller : ℕ) (saw own saw1 own1 saw2 own2 : Histories) (ans : List Answer) (shard : ℕ) (command : Command) (a : Answer)
-    → IsRun q moment caller saw own saw1 own1 ans → script q ans ≡ Ask shard command → IsStepped caller saw1 own1 saw2 own2 shard moment command a
-    → IsRun q moment caller saw own saw2 own2 (ans ++ a ∷ [])
-run-step q moment caller saw own saw1 own1 saw2 own2 ans shard command a r e x =
-    let g = grows_step caller saw1 own1 saw2 own2 shard moment command a x in
+-- nothing was asked yet
+pub run-none : (q : Request) (moment caller : ℕ) (saw own : Histories) → IsRun q moment caller saw own saw own []
+run-none q moment caller saw own = record { goes_on = goes_on-same caller saw own saw own (record { seen = λ s. refl; mine = λ s. refl }); asked = λ s. refl }
+
+-- one step more
+pub run-step : (q : Request) (moment caller : ℕ) (saw own mid mine saw' own' : Histories) (ans : List Answer) (shard : ℕ) (command : Command) (a : Answer)
+    → IsRun q moment caller saw own mid mine ans → script q ans ≡ Ask shard command → IsStepped caller mid mine saw' own' shard moment command a
+    → IsRun q moment caller saw own saw' own' (ans ++ a ∷ [])
+run-step q moment caller saw own mid mine saw' own' ans shard command a r e x =
+    let g = goes_on-step caller mid mine saw' own' shard moment command a x in
     record {
-      grows = grows_trans saw saw1 saw2 r.grows g;
-      sound = λ l. lists-step caller saw1 own1 saw2 own2 shard moment command a x (r.sound l);
-      asked = Asks-more q [] ans moment saw1 saw2 caller (lengths own) (lengths own1) (lengths own2) shard command a g r.asked e
-          (AnswersAt-step caller saw1 own1 saw2 own2 shard moment command a x) (one_more-step caller saw1 own1 saw2 own2 shard moment command a x);
+      goes_on = goes_on-trans caller saw own mid mine saw' own' r.goes_on g;
+      asked = Asks-more q [] ans moment mid saw' caller (lengths own) (lengths mine) (lengths own') shard command a g.grows r.asked e
+          (AnswersAt-step caller mid mine saw' own' shard moment command a x) (one_more-step caller mid mine saw' own' shard moment command a x);
     }
 
-pub run-same : (q : Request) (moment caller : ℕ) (saw own saw1 own1 saw2 own2 : Histories) (ans : List Answer)
-    → IsRun q moment caller saw own saw1 own1 ans → AreUnmoved saw1 own1 saw2 own2 → IsRun q moment caller saw own saw2 own2 ans
-run-same q moment caller saw own saw1 own1 saw2 own2 ans r x =
-    let g = grows_same saw1 saw2 x.seen in
+-- and none
+pub run-same : (q : Request) (moment caller : ℕ) (saw own mid mine saw' own' : Histories) (ans : List Answer)
+    → IsRun q moment caller saw own mid mine ans → AreUnmoved mid mine saw' own' → IsRun q moment caller saw own saw' own' ans
+run-same q moment caller saw own mid mine saw' own' ans r x =
+    let g = goes_on-same caller mid mine saw' own' x in
     record {
-      grows = grows_trans saw saw1 saw2 r.grows g;
-      sound = λ l. lists-same caller saw1 own1 saw2 own2 x (r.sound l);
-      asked = Asks-kept q [] ans moment saw1 saw2 caller (lengths own) (lengths own1) (lengths own2) g (same-lengths own1 own2 x.mine) r.asked;
+      goes_on = goes_on-trans caller saw own mid mine saw' own' r.goes_on g;
+      asked = Asks-kept q [] ans moment mid saw' caller (lengths own) (lengths mine) (lengths own') g.grows (same-lengths mine own' x.mine) r.asked;
     }
 
 pub some_more : (ans : List Answer) (a : Answer) → true ≡ is_some_step (ans ++ a ∷ [])

@@ -1,7 +1,9 @@
 -- What has come of a body.
-use Rattle.std.specs.Prelude.{◌≡◌, ◌≤◌, ◌<◌, ℕ, Bool, true, false, List, ◌++◌, length, Option, Some, None, Ok, Err}
+use Rattle.std.specs.Prelude.{◌≡◌, ◌≤◌, ◌<◌, ℕ, List, ◌++◌, length, Option, Some, None, Ok, Err}
 use Rattle.gcs_chunks.specs.Content.{bytes_of}
 use Rattle.gcs_crc.specs.Digests.{StandsAfter}
+use Rattle.gcs_request.specs.declared.bodies.BodyKind.{BodyKind}
+use Rattle.gcs_request.specs.declared.bodies.BodyKind.TheVariants as kind
 use Rattle.gcs_session.specs.declared.body.Body.{Body}
 use Rattle.gcs_session.specs.declared.body.Body.TheVariants as body
 use Rattle.gcs_session.specs.declared.body.Kept.{Kept}
@@ -29,14 +31,8 @@ IsGathered most (body.Text (Ok text)) bytes = IsTextOf most text bytes
 IsGathered most (body.Text (Err TooLong)) bytes = most < length bytes
 IsGathered most (body.Text (Err NoMemory)) bytes = Unit {0}
 
--- the body is a content
-abbrev pub is_content : Body → Bool
-is_content body.PassedOver = false
-is_content (body.Content kept) = true
-is_content (body.Text text) = false
-
--- the body is a text
-abbrev pub is_text : Body → Bool
-is_text body.PassedOver = false
-is_text (body.Content kept) = false
-is_text (body.Text text) = true
+-- what becomes of the bytes of the body
+abbrev pub kind_in : Body → BodyKind
+kind_in body.PassedOver = kind.PassedOver
+kind_in (body.Content kept) = kind.Content
+kind_in (body.Text text) = kind.Text

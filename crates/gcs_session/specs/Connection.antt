@@ -1,28 +1,31 @@
 -- A connection as a whole: what was read, written and asked, in one call.
 use Rattle.std.specs.Prelude.{◌≡◌, ℕ, ◌<◌, List, [], ◌∷◌, ◌++◌, length, Bool, true, false, Option}
 use Rattle.std.specs.List.{list_all}
-use Rattle.gcs_io.specs.Told.{Gains}
+use Rattle.gcs_io.specs.Told.{Gains, Loses}
 use Rattle.gcs_http_in.specs.declared.limits.Limits.{Limits}
 use Rattle.gcs_http_in.specs.Lines.{is_end_byte}
 use Rattle.gcs_http_in.specs.Message.{Message, AllKeep, IsSpelled, Spells}
 use Rattle.gcs_meaning.specs.Desk.{Histories, AreLists}
 use Rattle.gcs_session.specs.declared.ends.SessionEnd.{SessionEnd}
 use Rattle.gcs_session.specs.declared.ends.SessionEnd.TheVariants.{Ended, Closed, Cut, ReadFault, WriteFault, NoMemory}
-use Rattle.gcs_session.specs.Scripts.{Counts}
+use Rattle.gcs_session.specs.Asks.{Counts}
 use Rattle.gcs_session.specs.Served.{Answers, Serves}
 use Rattle.gcs_session.specs.Running.{lengths, Grows}
 
--- what source, sink, clock and desk tell at one moment
+-- what source, sink, clock and desk tell at one moment: the bytes that are left to be read, those that were read and written, the
+-- readings, and the histories
 pub record Outside : Type 0 where
+  pub left : Option (List ℕ)
   pub taken : Option (List ℕ)
   pub written : Option (List ℕ)
   pub given : Option (List ℕ)
   pub saw : Histories
   pub own : Histories
 
--- from one moment to a later one: the bytes read, the bytes written and the readings; each old history is a prefix of the new
+-- from one moment to a later one: the bytes read, which were the next ones, the bytes written and the readings; each old history is a prefix of the new
 -- one; and the lists stay those of a caller
 pub record Moved (caller : ℕ) (a b : Outside) (input output moments : List ℕ) : Type 0 where
+  pub lost : Loses a.left b.left input
   pub read : Gains a.taken b.taken input
   pub wrote : Gains a.written b.written output
   pub clocked : Gains a.given b.given moments

@@ -1,10 +1,4 @@
-pub mod Ranges
-pub mod Heads
-pub mod Calls
-pub mod Inserts
-pub mod Lists
-pub mod Scripts
-pub mod Replies
+pub mod Asks
 pub mod Running
 pub mod Served
 pub mod Bodies
@@ -14,4 +8,3 @@ pub mod Session
 pub mod Connection
 pub mod Writing
 pub mod Along
-pub mod Alone

@@ -5,13 +5,16 @@ use Rattle.gcs_http_in.specs.Head.{Head}
 use Rattle.gcs_http_in.specs.Message.{Message, whole, refused}
 use Rattle.gcs_meaning.specs.declared.command.Answer.{Answer}
 use Rattle.gcs_meaning.specs.Desk.{Histories}
-use Rattle.gcs_session.specs.declared.requests.Request.{Request}
-use Rattle.gcs_session.specs.declared.script.Move.TheVariants.{Say}
-use Rattle.gcs_session.specs.declared.script.Reply.{Reply}
-use Rattle.gcs_session.specs.declared.reply.Form.{Form}
-use Rattle.gcs_session.specs.Calls.{IsCall}
-use Rattle.gcs_session.specs.Scripts.{Asks, Counts, SameCounts, is_some_step, script}
-use Rattle.gcs_session.specs.Replies.{fault_text, form_of, memory_text, reply_text}
+use Rattle.gcs_meaning.specs.declared.reason.Reason.{Reason}
+use Rattle.gcs_rewrite.specs.declared.moves.Move.TheVariants.{Say}
+use Rattle.gcs_rewrite.specs.declared.replies.Reply.{Reply}
+use Rattle.gcs_rewrite.specs.declared.request.Request.{Request}
+use Rattle.gcs_rewrite.specs.Scripts.{script}
+use Rattle.gcs_request.specs.Requests.{IsCall, IsRefusal}
+use Rattle.gcs_reply.specs.declared.form.Form.{Form}
+use Rattle.gcs_reply.specs.Form.{form_of}
+use Rattle.gcs_reply.specs.Replies.{fault_text, memory_text, refusal_text, reply_text}
+use Rattle.gcs_session.specs.Asks.{Asks, Counts, SameCounts, is_some_step}
 
 -- the whole script ran, and the text is what it says
 pub record IsSaid (limits : Limits) (head : Head) (body : List ℕ) (keeps : Bool) (moment : ℕ) (histories : Histories) (caller : ℕ) (from : Counts) (text : List ℕ) (to : Counts) : Type 0 where
@@ -22,6 +25,13 @@ pub record IsSaid (limits : Limits) (head : Head) (body : List ℕ) (keeps : Boo
   pub reply : Reply
   pub said : script request answers ≡ Say reply
   pub text_is : text ≡ reply_text (form_of head keeps) request reply
+
+-- the message is refused before any step, and the text says why
+pub record IsTurnedAway (limits : Limits) (head : Head) (body : List ℕ) (keeps : Bool) (from : Counts) (text : List ℕ) (to : Counts) : Type 0 where
+  pub reason : Reason
+  pub refusal : IsRefusal limits head body reason
+  pub none : SameCounts from to
+  pub text_is : text ≡ refusal_text (form_of head keeps) reason
 
 -- memory ran out before any step
 pub record IsWanting (head : Head) (keeps : Bool) (from : Counts) (text : List ℕ) (to : Counts) : Type 0 where
@@ -41,7 +51,8 @@ pub record IsWantingDone (limits : Limits) (head : Head) (body : List ℕ) (keep
 abbrev pub Replies : Limits → Head → List ℕ → Bool → ℕ → Histories → ℕ → Counts → List ℕ → Counts → Type 0
 Replies limits head body keeps moment histories caller from text to =
     IsSaid limits head body keeps moment histories caller from text to
-    ⊎ (IsWanting head keeps from text to ⊎ IsWantingDone limits head body keeps moment histories caller from text to)
+    ⊎ (IsTurnedAway limits head body keeps from text to
+    ⊎ (IsWanting head keeps from text to ⊎ IsWantingDone limits head body keeps moment histories caller from text to))
 
 -- the reply to one message, with the readings that it takes: one, or none where the message is refused by its framing
 abbrev pub Answers : Limits → Message → List ℕ → Histories → ℕ → Counts → List ℕ → Counts → Type 0

@@ -6,7 +6,7 @@ use Rattle.gcs_http_in.specs.Head.{Head}
 use Rattle.gcs_http_in.specs.Message.{Message, whole, refused, keeps_of, stays, AllKeep}
 use Rattle.gcs_http_in.specs.Progress.{Current}
 use Rattle.gcs_http_in.specs.Stands.{Stands, IsWaiting, limits_of}
-use Rattle.gcs_meaning.specs.Desk.{Histories, AreLists, AreUnmoved}
+use Rattle.gcs_meaning.specs.Desk.{Histories, AreUnmoved}
 use Rattle.gcs_session.specs.declared.coming.Coming.{Coming}
 use Rattle.gcs_session.specs.declared.session.Session.{Session}
 use Rattle.gcs_session.specs.declared.session.Fed.{Fed}
@@ -15,7 +15,7 @@ use Rattle.gcs_session.specs.declared.session.Event.TheVariants as event
 use Rattle.gcs_session.specs.declared.session.Want.{Want}
 use Rattle.gcs_session.specs.declared.session.Want.TheVariants.{More, Drain, Close}
 use Rattle.gcs_session.specs.Coming.{IsComing}
-use Rattle.gcs_session.specs.Running.{Grows, lengths}
+use Rattle.gcs_session.specs.Running.{GoesOn, lengths}
 use Rattle.gcs_session.specs.Unsent.{unsent_bytes}
 use Rattle.gcs_session.specs.Served.{Answers, Serves}
 
@@ -63,11 +63,14 @@ IsWantOf waiting closed Drain = waiting ≢ []
 IsWantOf waiting closed Close = (waiting ≡ []) × (closed ≡ true)
 IsWantOf waiting closed More = (waiting ≡ []) × (closed ≡ false)
 
--- after a call of `feed`: what it wants is what waits, and it wants more only once it took the whole piece
-pub record IsWanted (s : Session) (piece : List ℕ) (fed : Fed) : Type 0 where
+-- after a call of `feed`: what it wants is what waits, and it wants more only once it took the whole piece. It takes nothing while
+-- bytes wait to be written, nor once the connection is closed
+pub record IsWanted (old s : Session) (piece : List ℕ) (fed : Fed) : Type 0 where
   pub within : fed.taken ≤ length piece
   pub want : IsWantOf (waiting_in s) s.closed fed.want
   pub whole : fed.want ≡ More → fed.taken ≡ length piece
+  pub waits : waiting_in old ≢ [] → fed.taken ≡ 0
+  pub shut : old.closed ≡ true → fed.taken ≡ 0
 
 -- what the desk and the clock tell at one moment
 pub record Seen : Type 0 where
@@ -75,16 +78,16 @@ pub record Seen : Type 0 where
   pub saw : Histories
   pub own : Histories
 
--- a call took the front of the piece: it read at most one message more, answered it and added its reply; where it read none,
--- the lists and the readings stay
+-- a call took the front of the piece: it read at most one message more, answered it and added its reply, which waits alone: all
+-- replies before it were given out. Where it read none, the lists and the readings stay
 pub record IsFed (caller : ℕ) (a b : Seen) (s : Session) (piece : List ℕ) (fed : Fed) (bytes : List ℕ) (messages : List Message) (text drained : List ℕ) : Type 0 where
   pub told : List Message
   pub one : length told ≤ 1
   pub moments : List ℕ
   pub reply : List ℕ
   pub clocked : Gains a.given b.given moments
-  pub grows : Grows a.saw b.saw
-  pub sound : AreLists caller a.saw a.own → AreLists caller b.saw b.own
+  pub goes_on : GoesOn caller a.saw a.own b.saw b.own
+  pub alone : (told ≡ [] → ⊥) → drained ≡ text
   pub quiet : told ≡ [] → AreUnmoved a.saw a.own b.saw b.own
   pub served : Serves (limits_in s) told moments b.saw caller (lengths a.own) reply (lengths b.own)
   pub session : IsSession s (bytes ++ take fed.taken piece) (messages ++ told) (text ++ reply) drained
@@ -103,8 +106,7 @@ IsWholeIn limits head content keeps (Some coming) = IsComing limits head content
 pub record IsReplied (caller : ℕ) (a b : Seen) (s : Session) (m : Message) : Type 0 where
   pub moments : List ℕ
   pub clocked : Gains a.given b.given moments
-  pub grows : Grows a.saw b.saw
-  pub sound : AreLists caller a.saw a.own → AreLists caller b.saw b.own
+  pub goes_on : GoesOn caller a.saw a.own b.saw b.own
   pub answers : Answers (limits_in s) m moments b.saw caller (lengths a.own) (unsent_bytes s.unsent) (lengths b.own)
   pub coming : s.coming ≡ None
   pub closed : s.closed ≡ not (keeps_of m)

@@ -1,20 +1,21 @@
 //! The reply to a request: its script against the desk, and the text of what it says.
-ghost use Rattle.std.specs.Prelude.{◌≡◌, ℕ, Bool, List, ◌∷◌, []};
+ghost use Rattle.std.specs.Prelude.{◌≡◌, ◌⊎◌, ℕ, Bool, List, ◌∷◌, [], false};
 ghost use Rattle.gcs_io.specs.Told.{Gains};
 ghost use Rattle.gcs_http_in.specs.declared.limits.Limits.{Limits};
 ghost use Rattle.gcs_http_in.specs.Head.{Head};
-ghost use Rattle.gcs_meaning.specs.Desk.{AreLists};
+ghost use Rattle.gcs_rewrite.specs.Scripts.{IsAskable};
+ghost use Rattle.gcs_reply.specs.Outgoing.{outgoing_bytes};
+ghost use Rattle.gcs_reply.specs.Replies.{memory_text, refusal_text};
 ghost use Rattle.gcs_session.specs.Coming.{IsComing};
-ghost use Rattle.gcs_session.specs.Scripts.{IsAskable};
+ghost use Rattle.gcs_session.specs.Running.{lengths, GoesOn, RanTo};
 ghost use Rattle.gcs_session.specs.Served.{IsAnswered, Replies};
-ghost use Rattle.gcs_session.specs.Running.{lengths, Grows, RanTo, outgoing_bytes};
 
 use crate::coming::Coming;
-use crate::reply::{Form, Outgoing, memory_reply, write_reply};
-use crate::requests::{Request, request_of};
-use crate::script::{Move, Reply, next};
 use gcs_io::Clock;
-use gcs_meaning::Desk;
+use gcs_meaning::{Desk, Reason};
+use gcs_reply::{Form, Outgoing, memory_reply, write_refusal, write_reply};
+use gcs_request::{Asked, request_of};
+use gcs_rewrite::{Move, Reply, Request, next};
 use std::alloc::Global;
 
 /// The most moves that a script has: its steps, of which a list of buckets has one a shard, and what it says.
@@ -31,8 +32,7 @@ pub enum Ran {
 pub fn run_script<D: Desk>(alloc: Global, desk: &mut D, request: &Request, moment: u64) -> Ran
     requires { IsAskable request.now }
     ensures caller { D.caller desk.new ≡ D.caller desk.old }
-    ensures grows { Grows (D.seen desk.old) (D.seen desk.new) }
-    ensures sound { AreLists (D.caller desk.old) (D.seen desk.old) (D.mine desk.old) → AreLists (D.caller desk.old) (D.seen desk.new) (D.mine desk.new) }
+    ensures goes_on { GoesOn (D.caller desk.old) (D.seen desk.old) (D.mine desk.old) (D.seen desk.new) (D.mine desk.new) }
     ensures ran { RanTo request.now moment (D.seen desk.new) (D.caller desk.old) (lengths (D.mine desk.old)) result (lengths (D.mine desk.new)) }
 {
     let mut answers = Vec::new(alloc);
@@ -68,24 +68,44 @@ pub fn respond<C: Clock, D: Desk>(
 ) -> Outgoing
     requires { (limits : Limits) × (head : Head) × (body : List ℕ) × (keeps : Bool) × IsComing limits head body keeps coming }
     ensures caller { D.caller desk.new ≡ D.caller desk.old }
-    ensures grows { Grows (D.seen desk.old) (D.seen desk.new) }
-    ensures sound { AreLists (D.caller desk.old) (D.seen desk.old) (D.mine desk.old) → AreLists (D.caller desk.old) (D.seen desk.new) (D.mine desk.new) }
+    ensures goes_on { GoesOn (D.caller desk.old) (D.seen desk.old) (D.mine desk.old) (D.seen desk.new) (D.mine desk.new) }
     ensures reply { (moment : ℕ) × Gains (C.given clock.old) (C.given clock.new) (moment ∷ [])
         × ((limits : Limits) (head : Head) (body : List ℕ) (keeps : Bool) → IsComing limits head body keeps coming
         → Replies limits head body keeps moment (D.seen desk.new) (D.caller desk.old) (lengths (D.mine desk.old)) (outgoing_bytes result) (lengths (D.mine desk.new))) }
 {
     let moment = clock.now();
-    let Coming { wanted, body, form } = coming;
-    let Some(wanted) = wanted else {
+    let Coming {
+        heading,
+        body,
+        form,
+    } = coming;
+    let Some(heading) = heading else {
         drop(body);
         return memory_reply(form, false);
     };
-    let Ok(request) = request_of(alloc, desk, wanted, body) else {
+    let Ok(body) = body.finish(desk) else {
+        drop(heading);
         return memory_reply(form, false);
     };
-    let outgoing = answer(alloc, desk, &request, moment, form);
-    drop(request);
-    outgoing
+    match request_of(alloc, heading, body) {
+        Err(_) => memory_reply(form, false),
+        Ok(Asked::Refused(reason)) => refuse(alloc, form, &reason),
+        Ok(Asked::Asks(request)) => {
+            let outgoing = answer(alloc, desk, &request, moment, form);
+            drop(request);
+            outgoing
+        }
+    }
+}
+
+// The text of a refusal before any step.
+fn refuse(alloc: Global, form: Form, reason: &Reason) -> Outgoing
+    ensures { (outgoing_bytes result ≡ refusal_text form reason.now) ⊎ (outgoing_bytes result ≡ memory_text form false) }
+{
+    match write_refusal(alloc, form, reason) {
+        Ok(outgoing) => outgoing,
+        Err(_) => memory_reply(form, false),
+    }
 }
 
 // The text of what a request says.
@@ -98,8 +118,7 @@ fn answer<D: Desk>(
 ) -> Outgoing
     requires { IsAskable request.now }
     ensures caller { D.caller desk.new ≡ D.caller desk.old }
-    ensures grows { Grows (D.seen desk.old) (D.seen desk.new) }
-    ensures sound { AreLists (D.caller desk.old) (D.seen desk.old) (D.mine desk.old) → AreLists (D.caller desk.old) (D.seen desk.new) (D.mine desk.new) }
+    ensures goes_on { GoesOn (D.caller desk.old) (D.seen desk.old) (D.mine desk.old) (D.seen desk.new) (D.mine desk.new) }
     ensures said { IsAnswered form request.now moment (D.seen desk.new) (D.caller desk.old) (lengths (D.mine desk.old)) (outgoing_bytes result) (lengths (D.mine desk.new)) }
 {
     match run_script(alloc, desk, request, moment) {

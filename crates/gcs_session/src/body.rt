@@ -1,28 +1,29 @@
 //! The body of a message while it comes.
-ghost use Rattle.std.specs.Prelude.{◌≡◌, ◌≤◌, ◌<◌, ◌+◌, ◌++◌, ℕ, List, [], length, true, IfOk, OnOk, Err};
+ghost use Rattle.std.specs.Prelude.{◌≡◌, ◌≤◌, ◌+◌, ◌++◌, ℕ, List, [], length, true, IfOk, OnOk};
 ghost use Rattle.gcs_chunks.specs.Content.{bytes_of};
 ghost use Rattle.gcs_meaning.specs.Content.{bytes_in};
 ghost use Rattle.gcs_meaning.specs.Desk.{AreUnmoved};
-ghost use Rattle.gcs_session.specs.Bodies.{is_content, is_text, IsGathered, IsHeld};
+ghost use Rattle.gcs_request.specs.Bodies.{kind_of, IsCome};
+ghost use Rattle.gcs_session.specs.Bodies.{kind_in, IsGathered, IsHeld};
 
 use crate::bounded::{Bounded, TextFault};
 use crate::filling::Filling;
 use gcs_chunks::Content;
 use gcs_crc::Digests;
 use gcs_meaning::{Desk, Hashed, List};
+use gcs_request::{BodyKind, Come};
 use std::alloc::{AllocError, Global};
 
 /// The limit on bodies keeps every content far below so many bytes.
 const ROOM: u64 = 1 << 62;
 
-/// What becomes of the bytes of a body.
+/// What has come of a body.
 #[derive(Drop)]
 pub enum Body {
-    /// They are passed over: the message asks for no body.
     PassedOver,
-    /// They are kept as a content. `None`: memory lacked for it. What was kept is given up, and the rest is passed over.
+    /// What is kept of a content. `None`: memory lacked for it. What was kept is given up, and the rest is passed over.
     Content(Option<Kept>),
-    /// They are gathered as a text. `Err`: it is too long, or memory lacked for it, and the rest is passed over.
+    /// What is gathered of a text. `Err`: it is too long, or memory lacked for it, and the rest is passed over.
     Text(Result<Bounded, TextFault>),
 }
 
@@ -35,11 +36,22 @@ pub struct Kept {
 }
 
 impl Body {
+    /// A body of this kind, of which nothing has come. A text may have at most so many bytes.
+    pub fn new(alloc: Global, kind: BodyKind, most: u64) -> Body
+        ensures gathered { IsGathered most result [] }
+        ensures kind { kind_in result ≡ kind }
+    {
+        match kind {
+            BodyKind::PassedOver => Body::PassedOver,
+            BodyKind::Content => Body::Content(Some(Kept::new(alloc))),
+            BodyKind::Text => Body::Text(Ok(Bounded::new(alloc, most))),
+        }
+    }
+
     /// Takes more bytes.
     pub fn take<D: Desk>(&mut self, desk: &mut D, part: &[u8])
         ensures gathered { (most : ℕ) (bytes : List ℕ) → IsGathered most self.old bytes → IsGathered most self.new (bytes ++ part.now) }
-        ensures content { is_content self.new ≡ is_content self.old }
-        ensures text { is_text self.new ≡ is_text self.old }
+        ensures kind { kind_in self.new ≡ kind_in self.old }
         ensures caller { D.caller desk.new ≡ D.caller desk.old }
         ensures lists { AreUnmoved (D.seen desk.old) (D.mine desk.old) (D.seen desk.new) (D.mine desk.new) }
     {
@@ -50,33 +62,20 @@ impl Body {
         }
     }
 
-    /// The content with its digests. `Err`: memory lacked for it.
-    pub fn finish<D: Desk>(self, desk: &mut D) -> Result<Hashed, AllocError>
-        requires content { is_content self ≡ true }
-        requires gathered { (most : ℕ) × (bytes : List ℕ) × IsGathered most self bytes }
-        ensures bytes { IfOk result (λ hashed. (most : ℕ) (bytes : List ℕ) → IsGathered most self bytes → bytes_in hashed ≡ bytes) }
-        ensures md5 { IfOk result (λ hashed. hashed.with_md5 ≡ true) }
+    /// What has come, once the body is whole. `Err`: memory lacked for it.
+    pub fn finish<D: Desk>(self, desk: &mut D) -> Result<Come, AllocError>
+        requires { (most : ℕ) × (bytes : List ℕ) × IsGathered most self bytes }
+        ensures come { IfOk result (λ come. (most : ℕ) (bytes : List ℕ) → IsGathered most self bytes → IsCome most bytes come) }
+        ensures kind { IfOk result (λ come. kind_of come ≡ kind_in self) }
         ensures caller { D.caller desk.new ≡ D.caller desk.old }
         ensures lists { AreUnmoved (D.seen desk.old) (D.mine desk.old) (D.seen desk.new) (D.mine desk.new) }
     {
         match self {
-            Body::Content(Some(kept)) => kept.finish(desk),
-            Body::Content(None) => Err(AllocError),
-            Body::PassedOver | Body::Text(_) => unreachable!(),
-        }
-    }
-
-    /// The bytes of the text.
-    pub fn into_text(self) -> Result<Vec<u8>, TextFault>
-        requires { is_text self ≡ true }
-        ensures bytes { IfOk result (λ text. (most : ℕ) (bytes : List ℕ) → IsGathered most self bytes → text.items ≡ bytes) }
-        ensures within { OnOk result ((most : ℕ) (bytes : List ℕ) → IsGathered most self bytes → length bytes ≤ most) }
-        ensures too_long { result ≡ Err TextFault.TooLong → (most : ℕ) (bytes : List ℕ) → IsGathered most self bytes → most < length bytes }
-    {
-        match self {
-            Body::Text(Ok(text)) => Ok(text.into_bytes()),
-            Body::Text(Err(fault)) => Err(fault),
-            Body::PassedOver | Body::Content(_) => unreachable!(),
+            Body::PassedOver => Ok(Come::PassedOver),
+            Body::Content(Some(kept)) => Ok(Come::Content(kept.finish(desk)?)),
+            Body::Content(None) | Body::Text(Err(TextFault::NoMemory)) => Err(AllocError),
+            Body::Text(Ok(text)) => Ok(Come::Text(text.into_bytes())),
+            Body::Text(Err(TextFault::TooLong)) => Ok(Come::TooLong),
         }
     }
 }

@@ -42,8 +42,8 @@ pub fn serve_connection<S: Source, K: Sink, C: Clock, D: Desk>(
 
     // The headline.
     ensures served { IsServed limits.now (D.caller desk.old)
-        (record { taken = S.taken source.old; written = K.written sink.old; given = C.given clock.old; saw = D.seen desk.old; own = D.mine desk.old })
-        (record { taken = S.taken source.new; written = K.written sink.new; given = C.given clock.new; saw = D.seen desk.new; own = D.mine desk.new })
+        (record { left = S.rest source.old; taken = S.taken source.old; written = K.written sink.old; given = C.given clock.old; saw = D.seen desk.old; own = D.mine desk.old })
+        (record { left = S.rest source.new; taken = S.taken source.new; written = K.written sink.new; given = C.given clock.new; saw = D.seen desk.new; own = D.mine desk.new })
         (S.ended source.new) result }
     ensures caller { D.caller desk.new ≡ D.caller desk.old }
 
@@ -126,15 +126,15 @@ fn serve_piece<K: Sink, C: Clock, D: Desk>(
     piece: &[u8],
 ) -> Option<SessionEnd>
     requires block { 0 < length block.old }
-    requires along { (limits : Limits) × (a : Outside) × (taken : Option (List ℕ)) × IsAlong limits (D.caller desk.old) a
-        (record { taken = taken; written = K.written sink.old; given = C.given clock.old; saw = D.seen desk.old; own = D.mine desk.old })
+    requires along { (limits : Limits) × (a : Outside) × (left : Option (List ℕ)) × (taken : Option (List ℕ)) × IsAlong limits (D.caller desk.old) a
+        (record { left = left; taken = taken; written = K.written sink.old; given = C.given clock.old; saw = D.seen desk.old; own = D.mine desk.old })
         session.old piece.now }
     ensures caller { D.caller desk.new ≡ D.caller desk.old }
-    ensures along { (limits : Limits) (a : Outside) (taken : Option (List ℕ)) → (x : IsAlong limits (D.caller desk.old) a
-        (record { taken = taken; written = K.written sink.old; given = C.given clock.old; saw = D.seen desk.old; own = D.mine desk.old })
+    ensures along { (limits : Limits) (a : Outside) (left taken : Option (List ℕ)) → (x : IsAlong limits (D.caller desk.old) a
+        (record { left = left; taken = taken; written = K.written sink.old; given = C.given clock.old; saw = D.seen desk.old; own = D.mine desk.old })
         session.old piece.now)
         → AlongTo result (length x.fed + length piece.now) limits (D.caller desk.old) a
-        (record { taken = taken; written = K.written sink.new; given = C.given clock.new; saw = D.seen desk.new; own = D.mine desk.new })
+        (record { left = left; taken = taken; written = K.written sink.new; given = C.given clock.new; saw = D.seen desk.new; own = D.mine desk.new })
         session.new }
     ensures fault { result ≡ Some SessionEnd.WriteFault → Rose (K.faults sink.old) (K.faults sink.new) }
     ensures faults { K.faults sink.old ≤ K.faults sink.new }

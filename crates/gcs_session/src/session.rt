@@ -4,23 +4,23 @@ ghost use Rattle.std.specs.List.{list_all};
 ghost use Rattle.gcs_http_in.specs.declared.limits.Limits.{Limits};
 ghost use Rattle.gcs_http_in.specs.Head.{Head};
 ghost use Rattle.gcs_http_in.specs.Lines.{is_end_byte};
-ghost use Rattle.gcs_http_in.specs.Message.{Message, whole, AllKeep, Spells};
+ghost use Rattle.gcs_http_in.specs.Message.{Message, whole, Spells};
 ghost use Rattle.gcs_http_in.specs.Progress.{Current};
 ghost use Rattle.gcs_http_in.specs.Stands.{IsInMessage, Stands, limits_of};
 ghost use Rattle.gcs_http_in.specs.Usual.{IsAllowed};
 ghost use Rattle.gcs_meaning.specs.Desk.{AreUnmoved};
-ghost use Rattle.gcs_session.specs.Replies.{fault_text};
+ghost use Rattle.gcs_reply.specs.Replies.{fault_text};
 ghost use Rattle.gcs_session.specs.Session.{IsFed, IsGatheredTo, IsReplied, IsRunning, IsSession, IsUnderWay, IsWanted, IsWholeIn, limits_in, waiting_in};
 
 use crate::answering::respond;
 use crate::coming::Coming;
-use crate::heads::HeadFields;
-use crate::reply::{Outgoing, fault_reply};
 use crate::unsent::Unsent;
 use gcs_chunks::Chunks;
 use gcs_http_in::{FrameFault, Framer, Limits, Taken};
 use gcs_io::Clock;
 use gcs_meaning::Desk;
+use gcs_reply::{Outgoing, fault_reply};
+use gcs_request::HeadFields;
 use std::alloc::{AllocError, Global};
 
 /// What a session wants next.
@@ -39,6 +39,15 @@ pub enum Want {
 pub struct Fed {
     pub taken: usize,
     pub want: Want,
+}
+
+impl Fed {
+    // No byte was taken.
+    fn nothing(want: Want) -> Fed
+        ensures { result ≡ record { taken = 0; want = want } }
+    {
+        Fed { taken: 0, want }
+    }
 }
 
 // What ends the gathering of bytes: their end, or that of a message.
@@ -89,7 +98,7 @@ impl Session {
         requires { IsRunning self.old }
         ensures limits { limits_in self.new ≡ limits_in self.old }
         ensures caller { D.caller desk.new ≡ D.caller desk.old }
-        ensures want { IsWanted self.new piece.now result }
+        ensures want { IsWanted self.old self.new piece.now result }
         ensures fed { (bytes : List ℕ) (messages : List Message) (text drained : List ℕ) → IsSession self.old bytes messages text drained
             → IsFed (D.caller desk.old)
             (record { given = C.given clock.old; saw = D.seen desk.old; own = D.mine desk.old })
@@ -97,16 +106,10 @@ impl Session {
             self.new piece.now result bytes messages text drained }
     {
         if self.waits() {
-            return Fed {
-                taken: 0,
-                want: Want::Drain,
-            };
+            return Fed::nothing(Want::Drain);
         }
         if self.closed {
-            return Fed {
-                taken: 0,
-                want: Want::Close,
-            };
+            return Fed::nothing(Want::Close);
         }
         let (taken, event) = self.gather(desk, piece);
         match event {
@@ -155,7 +158,7 @@ impl Session {
     /// Whether only CR and LF bytes came since the last message's end.
     pub fn at_start(&self) -> bool
         ensures { (bytes : List ℕ) (messages : List Message) (text drained rest : List ℕ) → IsSession self.now bytes messages text drained
-            → AllKeep messages → Spells (limits_in self.now) bytes messages rest → result ≡ list_all is_end_byte rest }
+            → Spells (limits_in self.now) bytes messages rest → result ≡ list_all is_end_byte rest }
     {
         self.framer.at_start()
     }
@@ -201,14 +204,7 @@ impl Session {
         ensures coming { (bytes : List ℕ) (messages : List Message) (it : Current) → Stands self.old.framer bytes messages (Some it)
             → it.content ≡ [] → IsUnderWay (limits_of self.old.framer) messages (Some it) self.new.coming }
     {
-        let fields = HeadFields {
-            method: self.framer.method(),
-            target: self.framer.target(),
-            method_override: self.framer.field(b"x-http-method-override"),
-            content_type: self.framer.field(b"content-type"),
-            content_encoding: self.framer.field(b"content-encoding"),
-            range: self.framer.field(b"range"),
-        };
+        let fields = HeadFields::read(&self.framer);
         let coming = Coming::new(
             self.alloc,
             &fields,

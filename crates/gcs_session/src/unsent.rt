@@ -1,9 +1,9 @@
 //! The bytes of a reply that wait to be written.
 ghost use Rattle.std.specs.Prelude.{◌≡◌, ◌≤◌, ◌<◌, ◌-◌, ◌↔◌, [], IsTrue, length, min, take, drop};
-ghost use Rattle.gcs_session.specs.Running.{outgoing_bytes};
+ghost use Rattle.gcs_reply.specs.Outgoing.{outgoing_bytes};
 
-use crate::reply::Outgoing;
 use gcs_chunks::Chunks;
+use gcs_reply::Outgoing;
 
 /// A reply, of which the first bytes have been given out.
 #[derive(Drop)]

@@ -1,28 +1,49 @@
 use Rattle.std.proofs.Common.{ℕ, subst}
-use Rattle.gcs_session.specs.Calls.{IsCall, IsWanted}
-use Rattle.gcs_session.specs.Coming.{IsWantedIf}
-use Rattle.gcs_session.specs.Running.{lengths, outgoing_bytes}
+use Rattle.gcs_request.specs.Bodies.{IsCome}
+use Rattle.gcs_request.specs.Heading.{IsHeading}
+use Rattle.gcs_request.specs.Requests.{IsAsked, IsCall, IsRefusal}
+use Rattle.gcs_reply.specs.Outgoing.{outgoing_bytes}
+use Rattle.gcs_session.specs.Coming.{IsHeadingIf}
+use Rattle.gcs_session.specs.Running.{lengths, GoesOn}
 use Rattle.gcs_session.specs.Served.{IsAnswered}
-use Rattle.gcs_session.proofs.Answered.{answered-from, replies-answered}
-use Rattle.gcs_session.proofs.Steps.{grows_same, grows_trans, same-lengths}
+use Rattle.gcs_session.proofs.Answered.{answered-from, replies-answered, replies-refused}
+use Rattle.gcs_session.proofs.Steps.{goes_on-same, goes_on-trans, same-lengths}
 use Rattle.gcs_session.proofs.answering.respond.Goals as goal
 
-pub returns-clause-grows : goal.returns-clause-grows
-returns-clause-grows g c =
-    let d = g.D.Desk in
-    grows_trans (d.seen c.args.desk.now) (d.seen c.request_of.new.desk) (d.seen c.answer-outgoing.new.desk)
-    (grows_same (d.seen c.args.desk.now) (d.seen c.request_of.new.desk) c.request_of.ensures.lists.seen) c.answer-outgoing.ensures.grows
-
-pub returns-clause-reply : goal.returns-clause-reply
-returns-clause-reply g c =
+pub returns-in-Ok-Refused-clause-reply : goal.returns-in-Ok-Refused-clause-reply
+returns-in-Ok-Refused-clause-reply g c =
     let d = g.D.Desk in (
       c.now-moment.result,
       c.now-moment.ensures,
       λ limits head body keeps coming.
-          let wanted : IsWanted head c.in-Some.wanted = subst (IsWantedIf head) c.in-Some.is coming.wanted in
-          let call : IsCall limits head body c.in-Ok.request = c.in-Ok.ensures.request limits head body wanted coming.body in
-          let caller = c.request_of.ensures.caller in
-          let P : ℕ → Type 0 = λ n. IsAnswered c.args.coming.form c.in-Ok.request c.now-moment.result (d.seen c.answer-outgoing.new.desk) n (lengths (d.mine c.request_of.new.desk)) (outgoing_bytes c.answer-outgoing.result) (lengths (d.mine c.answer-outgoing.new.desk)) in
-          replies-answered limits head body keeps c.args.coming.form c.in-Ok.request c.now-moment.result _ (d.caller c.args.desk.now) _ _ _ coming.form call
-          (answered-from _ _ _ _ _ (lengths (d.mine c.args.desk.now)) (lengths (d.mine c.request_of.new.desk)) _ _ (same-lengths (d.mine c.args.desk.now) (d.mine c.request_of.new.desk) c.request_of.ensures.lists.mine) (subst P caller c.answer-outgoing.ensures.said)),
+          let heading : IsHeading head c.in-Some.heading = subst (IsHeadingIf head) c.in-Some.is coming.heading in
+          let come : IsCome limits.json body c.in-Ok.body = c.in-Ok.ensures.come limits.json body coming.body in
+          let refusal : IsRefusal limits head body c.in-Ok-Refused.reason = subst (IsAsked limits head body) c.in-Ok-Refused.field-0-is (c.in-Ok-Refused.ensures.asked limits head body heading come) in
+          replies-refused limits head body keeps c.args.coming.form c.in-Ok-Refused.reason c.now-moment.result (d.seen c.finish.new.desk) (d.caller c.args.desk.now) (lengths (d.mine c.args.desk.now))
+          (outgoing_bytes c.refuse.result) (lengths (d.mine c.finish.new.desk)) coming.form refusal
+          (same-lengths (d.mine c.args.desk.now) (d.mine c.finish.new.desk) c.finish.ensures.lists.mine) c.refuse.ensures,
+    )
+
+pub returns-in-Ok-Asks-clause-goes_on : goal.returns-in-Ok-Asks-clause-goes_on
+returns-in-Ok-Asks-clause-goes_on g c =
+    let d = g.D.Desk in
+    let k : ℕ = d.caller c.args.desk.now in
+    let P : ℕ → Type 0 = λ n. GoesOn n (d.seen c.finish.new.desk) (d.mine c.finish.new.desk) (d.seen c.answer-outgoing.new.desk) (d.mine c.answer-outgoing.new.desk) in
+    goes_on-trans k (d.seen c.args.desk.now) (d.mine c.args.desk.now) (d.seen c.finish.new.desk) (d.mine c.finish.new.desk) (d.seen c.answer-outgoing.new.desk) (d.mine c.answer-outgoing.new.desk)
+    (goes_on-same k (d.seen c.args.desk.now) (d.mine c.args.desk.now) (d.seen c.finish.new.desk) (d.mine c.finish.new.desk) c.finish.ensures.lists)
+    (subst P c.finish.ensures.caller c.answer-outgoing.ensures.goes_on)
+
+pub returns-in-Ok-Asks-clause-reply : goal.returns-in-Ok-Asks-clause-reply
+returns-in-Ok-Asks-clause-reply g c =
+    let d = g.D.Desk in (
+      c.now-moment.result,
+      c.now-moment.ensures,
+      λ limits head body keeps coming.
+          let heading : IsHeading head c.in-Some.heading = subst (IsHeadingIf head) c.in-Some.is coming.heading in
+          let come : IsCome limits.json body c.in-Ok.body = c.in-Ok.ensures.come limits.json body coming.body in
+          let call : IsCall limits head body c.in-Ok-Asks.request = subst (IsAsked limits head body) c.in-Ok-Asks.field-0-is (c.in-Ok-Asks.ensures.asked limits head body heading come) in
+          let P : ℕ → Type 0 = λ n. IsAnswered c.args.coming.form c.in-Ok-Asks.request c.now-moment.result (d.seen c.answer-outgoing.new.desk) n (lengths (d.mine c.finish.new.desk)) (outgoing_bytes c.answer-outgoing.result) (lengths (d.mine c.answer-outgoing.new.desk)) in
+          replies-answered limits head body keeps c.args.coming.form c.in-Ok-Asks.request c.now-moment.result _ (d.caller c.args.desk.now) _ _ _ coming.form call
+          (answered-from _ _ _ _ _ (lengths (d.mine c.args.desk.now)) (lengths (d.mine c.finish.new.desk)) _ _
+          (same-lengths (d.mine c.args.desk.now) (d.mine c.finish.new.desk) c.finish.ensures.lists.mine) (subst P c.finish.ensures.caller c.answer-outgoing.ensures.said)),
     )

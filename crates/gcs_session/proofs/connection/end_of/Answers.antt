@@ -2,7 +2,7 @@ use Rattle.std.proofs.Common.{true, subst}
 use Rattle.std.specs.Prelude.{if◌then◌else◌}
 use Rattle.gcs_session.specs.declared.ends.SessionEnd.TheVariants.{Cut, Ended}
 use Rattle.gcs_session.specs.Connection.{IsServed}
-use Rattle.gcs_session.proofs.Alongs.{along-ended}
+use Rattle.gcs_session.proofs.Closings.{along-ended}
 use Rattle.gcs_session.proofs.connection.end_of.Goals as goal
 
 pub returns-then-at_start-clause-served : goal.returns-then-at_start-clause-served

@@ -1,6 +1,6 @@
 use Rattle.std.proofs.Common.{◌≡◌, ◌∙◌, ◌<◌, ◌+◌, ◌⊎◌, inl, inr, ℕ, List, [], Some, None, length, take, ap, sym, subst, arith}
 use Rattle.std.proofs.lemmas.List.{length-take}
-use Rattle.gcs_io.specs.Told.{Gains}
+use Rattle.gcs_io.specs.Told.{Gains, Loses}
 use Rattle.gcs_http_in.specs.Usual.{IsAllowed}
 use Rattle.gcs_http_in.proofs.Bounds.{bound_small, bytes_bounded}
 use Rattle.gcs_session.specs.declared.ends.SessionEnd.{SessionEnd}
@@ -8,30 +8,34 @@ use Rattle.gcs_session.specs.declared.ends.SessionEnd.TheVariants.{Cut, Ended, N
 use Rattle.gcs_session.specs.Along.{AlongTo}
 use Rattle.gcs_session.specs.Connection.{IsServed, Outside}
 use Rattle.gcs_session.specs.Session.{limits_in}
-use Rattle.gcs_session.proofs.Alongs.{along-fault, along-over, along-read, along-read-by, kept-open, read-ended, read-failed, read-some, refilled}
+use Rattle.gcs_session.proofs.Alongs.{along-fault, along-read, along-read-by, kept-open}
+use Rattle.gcs_session.proofs.Blocks.{read-ended, read-failed, read-some, refilled}
+use Rattle.gcs_session.proofs.Closings.{along-over}
 use Rattle.gcs_session.proofs.connection.serve_connection.Goals as goal
 
 pub returns-in-Err-read-clause-served : goal.returns-in-Err-read-clause-served
 returns-in-Err-read-clause-served g c =
     let d = g.D.Desk in
     let i = c.pieces.invariant in
-    let before : Outside = record { taken = g.S.Source.taken c.args.source.now; written = g.K.Sink.written c.args.sink.now; given = g.C.Clock.given c.args.clock.now; saw = d.seen c.args.desk.now; own = d.mine c.args.desk.now } in
-    let here : Outside = record { taken = g.S.Source.taken c.pieces.source; written = g.K.Sink.written c.pieces.sink; given = g.C.Clock.given c.pieces.clock; saw = d.seen c.pieces.desk; own = d.mine c.pieces.desk } in
-    let there : Outside = record { taken = g.S.Source.taken c.read.new.self; written = g.K.Sink.written c.pieces.sink; given = g.C.Clock.given c.pieces.clock; saw = d.seen c.pieces.desk; own = d.mine c.pieces.desk } in
-    let served = along-fault c.args.limits.now (d.caller c.args.desk.now) before here (g.S.Source.taken c.read.new.self) c.pieces.wire.session c.in-Err-read.ensures.taken i.along.0 i.stays in
+    let before : Outside = record { left = g.S.Source.rest c.args.source.now; taken = g.S.Source.taken c.args.source.now; written = g.K.Sink.written c.args.sink.now; given = g.C.Clock.given c.args.clock.now; saw = d.seen c.args.desk.now; own = d.mine c.args.desk.now } in
+    let here : Outside = record { left = g.S.Source.rest c.pieces.source; taken = g.S.Source.taken c.pieces.source; written = g.K.Sink.written c.pieces.sink; given = g.C.Clock.given c.pieces.clock; saw = d.seen c.pieces.desk; own = d.mine c.pieces.desk } in
+    let there : Outside = record { left = g.S.Source.rest c.read.new.self; taken = g.S.Source.taken c.read.new.self; written = g.K.Sink.written c.pieces.sink; given = g.C.Clock.given c.pieces.clock; saw = d.seen c.pieces.desk; own = d.mine c.pieces.desk } in
+    let served = along-fault c.args.limits.now (d.caller c.args.desk.now) before here (g.S.Source.rest c.read.new.self) (g.S.Source.taken c.read.new.self) c.pieces.wire.session c.in-Err-read.ensures.rest c.in-Err-read.ensures.taken i.along.0 i.stays in
     subst (λ e. IsServed c.args.limits.now (d.caller c.args.desk.now) before there e ReadFault) (sym (c.read.ensures.ended ∙ read-failed c.read.result c.in-Err-read.field-0 c.read.new.into c.in-Err-read.is)) served
 
 pub returns-then-count-eq0-clause-served : goal.returns-then-count-eq0-clause-served
 returns-then-count-eq0-clause-served g c =
     let d = g.D.Desk in
     let i = c.pieces.invariant in
-    let before : Outside = record { taken = g.S.Source.taken c.args.source.now; written = g.K.Sink.written c.args.sink.now; given = g.C.Clock.given c.args.clock.now; saw = d.seen c.args.desk.now; own = d.mine c.args.desk.now } in
-    let here : Outside = record { taken = g.S.Source.taken c.pieces.source; written = g.K.Sink.written c.pieces.sink; given = g.C.Clock.given c.pieces.clock; saw = d.seen c.pieces.desk; own = d.mine c.pieces.desk } in
-    let there : Outside = record { taken = g.S.Source.taken c.read.new.self; written = g.K.Sink.written c.pieces.sink; given = g.C.Clock.given c.pieces.clock; saw = d.seen c.pieces.desk; own = d.mine c.pieces.desk } in
+    let before : Outside = record { left = g.S.Source.rest c.args.source.now; taken = g.S.Source.taken c.args.source.now; written = g.K.Sink.written c.args.sink.now; given = g.C.Clock.given c.args.clock.now; saw = d.seen c.args.desk.now; own = d.mine c.args.desk.now } in
+    let here : Outside = record { left = g.S.Source.rest c.pieces.source; taken = g.S.Source.taken c.pieces.source; written = g.K.Sink.written c.pieces.sink; given = g.C.Clock.given c.pieces.clock; saw = d.seen c.pieces.desk; own = d.mine c.pieces.desk } in
+    let there : Outside = record { left = g.S.Source.rest c.read.new.self; taken = g.S.Source.taken c.read.new.self; written = g.K.Sink.written c.pieces.sink; given = g.C.Clock.given c.pieces.clock; saw = d.seen c.pieces.desk; own = d.mine c.pieces.desk } in
     let size : length c.read.new.into ≡ 65536 = c.read.auto.into ∙ ap length c.deref_mut.ensures.value ∙ i.reads in
     let nothing : Gains (g.S.Source.taken c.pieces.source) (g.S.Source.taken c.read.new.self) [] =
     subst (λ n. Gains (g.S.Source.taken c.pieces.source) (g.S.Source.taken c.read.new.self) (take n c.read.new.into)) c.if-count-eq0.true c.in-Ok-read.ensures.taken in
-    let along = along-read c.args.limits.now (d.caller c.args.desk.now) before here (g.S.Source.taken c.read.new.self) c.pieces.wire.session [] nothing i.along.0 in
+    let none : Loses (g.S.Source.rest c.pieces.source) (g.S.Source.rest c.read.new.self) [] =
+    subst (λ n. Loses (g.S.Source.rest c.pieces.source) (g.S.Source.rest c.read.new.self) (take n c.read.new.into)) c.if-count-eq0.true c.in-Ok-read.ensures.rest in
+    let along = along-read c.args.limits.now (d.caller c.args.desk.now) before here (g.S.Source.rest c.read.new.self) (g.S.Source.taken c.read.new.self) c.pieces.wire.session [] none nothing i.along.0 in
     let served = c.end_of.ensures.served c.args.limits.now (d.caller c.args.desk.now) before there along i.stays in
     subst (λ e. IsServed c.args.limits.now (d.caller c.args.desk.now) before there e c.end_of.result)
     (sym (c.read.ensures.ended ∙ read-ended c.read.result c.in-Ok-read.count c.read.new.into c.in-Ok-read.is c.if-count-eq0.true size)) served
@@ -62,29 +66,31 @@ serve_piece-requires-clause-along g c =
     let d = g.D.Desk in
     let i = c.pieces.invariant in
     let k : ℕ = d.caller c.args.desk.now in
+    let left = g.S.Source.rest c.read.new.self in
     let taken = g.S.Source.taken c.read.new.self in
-    let before : Outside = record { taken = g.S.Source.taken c.args.source.now; written = g.K.Sink.written c.args.sink.now; given = g.C.Clock.given c.args.clock.now; saw = d.seen c.args.desk.now; own = d.mine c.args.desk.now } in
-    let here : Outside = record { taken = g.S.Source.taken c.pieces.source; written = g.K.Sink.written c.pieces.sink; given = g.C.Clock.given c.pieces.clock; saw = d.seen c.pieces.desk; own = d.mine c.pieces.desk } in
+    let before : Outside = record { left = g.S.Source.rest c.args.source.now; taken = g.S.Source.taken c.args.source.now; written = g.K.Sink.written c.args.sink.now; given = g.C.Clock.given c.args.clock.now; saw = d.seen c.args.desk.now; own = d.mine c.args.desk.now } in
+    let here : Outside = record { left = g.S.Source.rest c.pieces.source; taken = g.S.Source.taken c.pieces.source; written = g.K.Sink.written c.pieces.sink; given = g.C.Clock.given c.pieces.clock; saw = d.seen c.pieces.desk; own = d.mine c.pieces.desk } in
     let same : c.deref.result.now ≡ c.read.new.into = c.deref.ensures.value
     ∙ refilled c.read.new.into c.pieces.wire.reads.items _ (sym (c.read.auto.into ∙ c.deref_mut.ensures.len)) (c.read.auto.into ∙ ap length c.deref_mut.ensures.value) in
-    let read = along-read-by c.args.limits.now k (d.caller c.pieces.desk) before here taken c.pieces.wire.session c.in-Ok-read.count c.read.new.into c.deref.result.now i.who same c.in-Ok-read.ensures.taken i.along.0 in
-    (c.args.limits.now, before, taken, read.0)
+    let read = along-read-by c.args.limits.now k (d.caller c.pieces.desk) before here left taken c.pieces.wire.session c.in-Ok-read.count c.read.new.into c.deref.result.now i.who same c.in-Ok-read.ensures.rest c.in-Ok-read.ensures.taken i.along.0 in
+    (c.args.limits.now, before, left, taken, read.0)
 
 pub returns-in-Some-clause-served : goal.returns-in-Some-clause-served
 returns-in-Some-clause-served g c =
     let d = g.D.Desk in
     let i = c.pieces.invariant in
     let k : ℕ = d.caller c.args.desk.now in
+    let left = g.S.Source.rest c.read.new.self in
     let taken = g.S.Source.taken c.read.new.self in
-    let before : Outside = record { taken = g.S.Source.taken c.args.source.now; written = g.K.Sink.written c.args.sink.now; given = g.C.Clock.given c.args.clock.now; saw = d.seen c.args.desk.now; own = d.mine c.args.desk.now } in
-    let here : Outside = record { taken = g.S.Source.taken c.pieces.source; written = g.K.Sink.written c.pieces.sink; given = g.C.Clock.given c.pieces.clock; saw = d.seen c.pieces.desk; own = d.mine c.pieces.desk } in
+    let before : Outside = record { left = g.S.Source.rest c.args.source.now; taken = g.S.Source.taken c.args.source.now; written = g.K.Sink.written c.args.sink.now; given = g.C.Clock.given c.args.clock.now; saw = d.seen c.args.desk.now; own = d.mine c.args.desk.now } in
+    let here : Outside = record { left = g.S.Source.rest c.pieces.source; taken = g.S.Source.taken c.pieces.source; written = g.K.Sink.written c.pieces.sink; given = g.C.Clock.given c.pieces.clock; saw = d.seen c.pieces.desk; own = d.mine c.pieces.desk } in
     let same : c.deref.result.now ≡ c.read.new.into = c.deref.ensures.value
     ∙ refilled c.read.new.into c.pieces.wire.reads.items _ (sym (c.read.auto.into ∙ c.deref_mut.ensures.len)) (c.read.auto.into ∙ ap length c.deref_mut.ensures.value) in
-    let read = along-read-by c.args.limits.now k (d.caller c.pieces.desk) before here taken c.pieces.wire.session c.in-Ok-read.count c.read.new.into c.deref.result.now i.who same c.in-Ok-read.ensures.taken i.along.0 in
-    let there : Outside = record { taken = taken; written = g.K.Sink.written c.serve_piece.new.sink; given = g.C.Clock.given c.serve_piece.new.clock; saw = d.seen c.serve_piece.new.desk; own = d.mine c.serve_piece.new.desk } in
+    let read = along-read-by c.args.limits.now k (d.caller c.pieces.desk) before here left taken c.pieces.wire.session c.in-Ok-read.count c.read.new.into c.deref.result.now i.who same c.in-Ok-read.ensures.rest c.in-Ok-read.ensures.taken i.along.0 in
+    let there : Outside = record { left = left; taken = taken; written = g.K.Sink.written c.serve_piece.new.sink; given = g.C.Clock.given c.serve_piece.new.clock; saw = d.seen c.serve_piece.new.desk; own = d.mine c.serve_piece.new.desk } in
     let over : AlongTo (Some c.in-Some.end) (length read.0.fed + length (take c.in-Ok-read.count c.deref.result.now)) c.args.limits.now k before there c.serve_piece.new.session =
     subst (λ n. AlongTo (Some c.in-Some.end) (length read.0.fed + length (take c.in-Ok-read.count c.deref.result.now)) c.args.limits.now n before there c.serve_piece.new.session) i.who
-    (c.in-Some.ensures.along c.args.limits.now before taken read.0) in
+    (c.in-Some.ensures.along c.args.limits.now before left taken read.0) in
     let count : 0 < c.in-Ok-read.count = omega (arith, c.if-count-eq0.false) in
     subst (λ e. IsServed c.args.limits.now k before there e c.in-Some.end) (sym (c.read.ensures.ended ∙ read-some c.read.result c.in-Ok-read.count c.read.new.into c.in-Ok-read.is count))
     (along-over c.in-Some.end (length read.0.fed + length (take c.in-Ok-read.count c.deref.result.now)) c.args.limits.now k before there c.serve_piece.new.session over)
@@ -94,16 +100,17 @@ returns-in-Some-clause-memory g c e =
     let d = g.D.Desk in
     let i = c.pieces.invariant in
     let k : ℕ = d.caller c.args.desk.now in
+    let left = g.S.Source.rest c.read.new.self in
     let taken = g.S.Source.taken c.read.new.self in
-    let before : Outside = record { taken = g.S.Source.taken c.args.source.now; written = g.K.Sink.written c.args.sink.now; given = g.C.Clock.given c.args.clock.now; saw = d.seen c.args.desk.now; own = d.mine c.args.desk.now } in
-    let here : Outside = record { taken = g.S.Source.taken c.pieces.source; written = g.K.Sink.written c.pieces.sink; given = g.C.Clock.given c.pieces.clock; saw = d.seen c.pieces.desk; own = d.mine c.pieces.desk } in
+    let before : Outside = record { left = g.S.Source.rest c.args.source.now; taken = g.S.Source.taken c.args.source.now; written = g.K.Sink.written c.args.sink.now; given = g.C.Clock.given c.args.clock.now; saw = d.seen c.args.desk.now; own = d.mine c.args.desk.now } in
+    let here : Outside = record { left = g.S.Source.rest c.pieces.source; taken = g.S.Source.taken c.pieces.source; written = g.K.Sink.written c.pieces.sink; given = g.C.Clock.given c.pieces.clock; saw = d.seen c.pieces.desk; own = d.mine c.pieces.desk } in
     let same : c.deref.result.now ≡ c.read.new.into = c.deref.ensures.value
     ∙ refilled c.read.new.into c.pieces.wire.reads.items _ (sym (c.read.auto.into ∙ c.deref_mut.ensures.len)) (c.read.auto.into ∙ ap length c.deref_mut.ensures.value) in
-    let read = along-read-by c.args.limits.now k (d.caller c.pieces.desk) before here taken c.pieces.wire.session c.in-Ok-read.count c.read.new.into c.deref.result.now i.who same c.in-Ok-read.ensures.taken i.along.0 in
-    let there : Outside = record { taken = taken; written = g.K.Sink.written c.serve_piece.new.sink; given = g.C.Clock.given c.serve_piece.new.clock; saw = d.seen c.serve_piece.new.desk; own = d.mine c.serve_piece.new.desk } in
+    let read = along-read-by c.args.limits.now k (d.caller c.pieces.desk) before here left taken c.pieces.wire.session c.in-Ok-read.count c.read.new.into c.deref.result.now i.who same c.in-Ok-read.ensures.rest c.in-Ok-read.ensures.taken i.along.0 in
+    let there : Outside = record { left = left; taken = taken; written = g.K.Sink.written c.serve_piece.new.sink; given = g.C.Clock.given c.serve_piece.new.clock; saw = d.seen c.serve_piece.new.desk; own = d.mine c.serve_piece.new.desk } in
     let over : AlongTo (Some c.in-Some.end) (length read.0.fed + length (take c.in-Ok-read.count c.deref.result.now)) c.args.limits.now k before there c.serve_piece.new.session =
     subst (λ n. AlongTo (Some c.in-Some.end) (length read.0.fed + length (take c.in-Ok-read.count c.deref.result.now)) c.args.limits.now n before there c.serve_piece.new.session) i.who
-    (c.in-Some.ensures.along c.args.limits.now before taken read.0) in
+    (c.in-Some.ensures.along c.args.limits.now before left taken read.0) in
     absurd (subst (λ end. AlongTo (Some end) (length read.0.fed + length (take c.in-Ok-read.count c.deref.result.now)) c.args.limits.now k before there c.serve_piece.new.session) e over)
 
 pub returns-in-Some-clause-read_fault : goal.returns-in-Some-clause-read_fault
@@ -111,16 +118,17 @@ returns-in-Some-clause-read_fault g c e =
     let d = g.D.Desk in
     let i = c.pieces.invariant in
     let k : ℕ = d.caller c.args.desk.now in
+    let left = g.S.Source.rest c.read.new.self in
     let taken = g.S.Source.taken c.read.new.self in
-    let before : Outside = record { taken = g.S.Source.taken c.args.source.now; written = g.K.Sink.written c.args.sink.now; given = g.C.Clock.given c.args.clock.now; saw = d.seen c.args.desk.now; own = d.mine c.args.desk.now } in
-    let here : Outside = record { taken = g.S.Source.taken c.pieces.source; written = g.K.Sink.written c.pieces.sink; given = g.C.Clock.given c.pieces.clock; saw = d.seen c.pieces.desk; own = d.mine c.pieces.desk } in
+    let before : Outside = record { left = g.S.Source.rest c.args.source.now; taken = g.S.Source.taken c.args.source.now; written = g.K.Sink.written c.args.sink.now; given = g.C.Clock.given c.args.clock.now; saw = d.seen c.args.desk.now; own = d.mine c.args.desk.now } in
+    let here : Outside = record { left = g.S.Source.rest c.pieces.source; taken = g.S.Source.taken c.pieces.source; written = g.K.Sink.written c.pieces.sink; given = g.C.Clock.given c.pieces.clock; saw = d.seen c.pieces.desk; own = d.mine c.pieces.desk } in
     let same : c.deref.result.now ≡ c.read.new.into = c.deref.ensures.value
     ∙ refilled c.read.new.into c.pieces.wire.reads.items _ (sym (c.read.auto.into ∙ c.deref_mut.ensures.len)) (c.read.auto.into ∙ ap length c.deref_mut.ensures.value) in
-    let read = along-read-by c.args.limits.now k (d.caller c.pieces.desk) before here taken c.pieces.wire.session c.in-Ok-read.count c.read.new.into c.deref.result.now i.who same c.in-Ok-read.ensures.taken i.along.0 in
-    let there : Outside = record { taken = taken; written = g.K.Sink.written c.serve_piece.new.sink; given = g.C.Clock.given c.serve_piece.new.clock; saw = d.seen c.serve_piece.new.desk; own = d.mine c.serve_piece.new.desk } in
+    let read = along-read-by c.args.limits.now k (d.caller c.pieces.desk) before here left taken c.pieces.wire.session c.in-Ok-read.count c.read.new.into c.deref.result.now i.who same c.in-Ok-read.ensures.rest c.in-Ok-read.ensures.taken i.along.0 in
+    let there : Outside = record { left = left; taken = taken; written = g.K.Sink.written c.serve_piece.new.sink; given = g.C.Clock.given c.serve_piece.new.clock; saw = d.seen c.serve_piece.new.desk; own = d.mine c.serve_piece.new.desk } in
     let over : AlongTo (Some c.in-Some.end) (length read.0.fed + length (take c.in-Ok-read.count c.deref.result.now)) c.args.limits.now k before there c.serve_piece.new.session =
     subst (λ n. AlongTo (Some c.in-Some.end) (length read.0.fed + length (take c.in-Ok-read.count c.deref.result.now)) c.args.limits.now n before there c.serve_piece.new.session) i.who
-    (c.in-Some.ensures.along c.args.limits.now before taken read.0) in
+    (c.in-Some.ensures.along c.args.limits.now before left taken read.0) in
     absurd (subst (λ end. AlongTo (Some end) (length read.0.fed + length (take c.in-Ok-read.count c.deref.result.now)) c.args.limits.now k before there c.serve_piece.new.session) e over)
 
 pub pieces-preserved : goal.pieces-preserved
@@ -128,17 +136,18 @@ pieces-preserved g c =
     let d = g.D.Desk in
     let i = c.pieces.invariant in
     let k : ℕ = d.caller c.args.desk.now in
+    let left = g.S.Source.rest c.read.new.self in
     let taken = g.S.Source.taken c.read.new.self in
-    let before : Outside = record { taken = g.S.Source.taken c.args.source.now; written = g.K.Sink.written c.args.sink.now; given = g.C.Clock.given c.args.clock.now; saw = d.seen c.args.desk.now; own = d.mine c.args.desk.now } in
-    let here : Outside = record { taken = g.S.Source.taken c.pieces.source; written = g.K.Sink.written c.pieces.sink; given = g.C.Clock.given c.pieces.clock; saw = d.seen c.pieces.desk; own = d.mine c.pieces.desk } in
+    let before : Outside = record { left = g.S.Source.rest c.args.source.now; taken = g.S.Source.taken c.args.source.now; written = g.K.Sink.written c.args.sink.now; given = g.C.Clock.given c.args.clock.now; saw = d.seen c.args.desk.now; own = d.mine c.args.desk.now } in
+    let here : Outside = record { left = g.S.Source.rest c.pieces.source; taken = g.S.Source.taken c.pieces.source; written = g.K.Sink.written c.pieces.sink; given = g.C.Clock.given c.pieces.clock; saw = d.seen c.pieces.desk; own = d.mine c.pieces.desk } in
     let same : c.deref.result.now ≡ c.read.new.into = c.deref.ensures.value
     ∙ refilled c.read.new.into c.pieces.wire.reads.items _ (sym (c.read.auto.into ∙ c.deref_mut.ensures.len)) (c.read.auto.into ∙ ap length c.deref_mut.ensures.value) in
-    let read = along-read-by c.args.limits.now k (d.caller c.pieces.desk) before here taken c.pieces.wire.session c.in-Ok-read.count c.read.new.into c.deref.result.now i.who same c.in-Ok-read.ensures.taken i.along.0 in
-    let there : Outside = record { taken = taken; written = g.K.Sink.written c.serve_piece.new.sink; given = g.C.Clock.given c.serve_piece.new.clock; saw = d.seen c.serve_piece.new.desk; own = d.mine c.serve_piece.new.desk } in
+    let read = along-read-by c.args.limits.now k (d.caller c.pieces.desk) before here left taken c.pieces.wire.session c.in-Ok-read.count c.read.new.into c.deref.result.now i.who same c.in-Ok-read.ensures.rest c.in-Ok-read.ensures.taken i.along.0 in
+    let there : Outside = record { left = left; taken = taken; written = g.K.Sink.written c.serve_piece.new.sink; given = g.C.Clock.given c.serve_piece.new.clock; saw = d.seen c.serve_piece.new.desk; own = d.mine c.serve_piece.new.desk } in
     let size : length c.read.new.into ≡ 65536 = c.read.auto.into ∙ ap length c.deref_mut.ensures.value ∙ i.reads in
     let room : length c.serve_piece.new.block ≡ 65536 = c.serve_piece.auto.block ∙ ap length c.deref_mut-in-pieces.ensures.value ∙ i.writes in
     let piece : List ℕ = take c.in-Ok-read.count c.deref.result.now in
-    let z = subst (λ n. AlongTo None (length read.0.fed + length piece) c.args.limits.now n before there c.serve_piece.new.session) i.who (c.in_default.ensures.along c.args.limits.now before taken read.0) in
+    let z = subst (λ n. AlongTo None (length read.0.fed + length piece) c.args.limits.now n before there c.serve_piece.new.session) i.who (c.in_default.ensures.along c.args.limits.now before left taken read.0) in
     let most : length c.deref.result.now ≡ 65536 = ap length same ∙ size in
     record {
       reads = ap length (refilled c.read.new.into c.pieces.wire.reads.items _ (sym (c.read.auto.into ∙ c.deref_mut.ensures.len)) (c.read.auto.into ∙ ap length c.deref_mut.ensures.value)) ∙ size;

@@ -9,8 +9,8 @@ invariant-pieces g l =
     let k = g.K.Sink in
     let t = g.C.Clock in
     let d = g.D.Desk in
-    let before : Outside = record { taken = s.taken l.fn.source; written = k.written l.fn.sink; given = t.given l.fn.clock; saw = d.seen l.fn.desk; own = d.mine l.fn.desk } in
-    let here : Outside = record { taken = s.taken l.source; written = k.written l.sink; given = t.given l.clock; saw = d.seen l.desk; own = d.mine l.desk } in
+    let before : Outside = record { left = s.rest l.fn.source; taken = s.taken l.fn.source; written = k.written l.fn.sink; given = t.given l.fn.clock; saw = d.seen l.fn.desk; own = d.mine l.fn.desk } in
+    let here : Outside = record { left = s.rest l.source; taken = s.taken l.source; written = k.written l.sink; given = t.given l.clock; saw = d.seen l.desk; own = d.mine l.desk } in
     record {
       reads : length l.wire.reads.items ≡ 65536;
       writes : length l.wire.writes.items ≡ 65536;

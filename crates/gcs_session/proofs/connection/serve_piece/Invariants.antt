@@ -14,11 +14,11 @@ invariant-messages g l =
       block : 0 < length l.block;
       caller : d.caller l.desk ≡ d.caller l.fn.desk;
       faults : k.faults l.fn.sink ≤ k.faults l.sink;
-      some : (limits : Limits) × (a : Outside) × (taken : Option (List ℕ))
-          × (x : IsAlong limits own a (record { taken = taken; written = k.written l.sink; given = t.given l.clock; saw = d.seen l.desk; own = d.mine l.desk }) l.session l.rest)
+      some : (limits : Limits) × (a : Outside) × (left : Option (List ℕ)) × (taken : Option (List ℕ))
+          × (x : IsAlong limits own a (record { left = left; taken = taken; written = k.written l.sink; given = t.given l.clock; saw = d.seen l.desk; own = d.mine l.desk }) l.session l.rest)
           × (l.turn ≤ length x.messages);
-      along : (limits : Limits) (a : Outside) (taken : Option (List ℕ))
-          → (x : IsAlong limits own a (record { taken = taken; written = k.written l.fn.sink; given = t.given l.fn.clock; saw = d.seen l.fn.desk; own = d.mine l.fn.desk }) l.fn.session l.piece)
-          → (z : IsAlong limits own a (record { taken = taken; written = k.written l.sink; given = t.given l.clock; saw = d.seen l.desk; own = d.mine l.desk }) l.session l.rest)
+      along : (limits : Limits) (a : Outside) (left taken : Option (List ℕ))
+          → (x : IsAlong limits own a (record { left = left; taken = taken; written = k.written l.fn.sink; given = t.given l.fn.clock; saw = d.seen l.fn.desk; own = d.mine l.fn.desk }) l.fn.session l.piece)
+          → (z : IsAlong limits own a (record { left = left; taken = taken; written = k.written l.sink; given = t.given l.clock; saw = d.seen l.desk; own = d.mine l.desk }) l.session l.rest)
           × (length x.fed + length l.piece ≤ length z.fed + length l.rest);
     }

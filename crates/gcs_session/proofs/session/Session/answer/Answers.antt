@@ -1,11 +1,11 @@
 use Rattle.std.proofs.Common.{◌∙◌, [], ◌∷◌, ℕ, List, refl, ap, sym, subst}
 use Rattle.gcs_http_in.specs.declared.limits.Limits.{Limits}
 use Rattle.gcs_session.specs.Coming.{IsComing}
-use Rattle.gcs_session.specs.Replies.{is_closing}
+use Rattle.gcs_reply.specs.Form.{is_closing}
 use Rattle.gcs_session.specs.Running.{lengths}
 use Rattle.gcs_session.specs.Served.{Replies}
 use Rattle.gcs_session.specs.Session.{IsWholeIn, limits_in}
-use Rattle.gcs_session.proofs.Endings.{closing-ending}
+use Rattle.gcs_reply.proofs.Endings.{closing-ending}
 use Rattle.gcs_session.proofs.session.Session.answer.Goals as goal
 
 pub returns-clause-answered : goal.returns-clause-answered
@@ -18,8 +18,7 @@ returns-clause-answered g c = λ head content keeps whole.
     record {
       moments = reply.0 ∷ [];
       clocked = reply.1;
-      grows = c.respond.ensures.grows;
-      sound = c.respond.ensures.sound;
+      goes_on = c.respond.ensures.goes_on;
       answers = (reply.0, refl, subst P (sym c.new.ensures) (reply.2 limits head content keeps coming));
       coming = c.take.ensures.after;
       closed = c.closes-self.ensures ∙ ap (λ form. is_closing form.ending) coming.form ∙ closing-ending head.minor keeps;

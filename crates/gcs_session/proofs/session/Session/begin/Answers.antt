@@ -4,21 +4,13 @@ use Rattle.gcs_http_in.specs.declared.limits.Limits.{Limits}
 use Rattle.gcs_http_in.specs.Message.{stays}
 use Rattle.gcs_http_in.specs.Stands.{limits_of}
 use Rattle.gcs_session.specs.Coming.{IsComing}
-use Rattle.gcs_session.proofs.HeadLemmas.{field_copied}
 use Rattle.gcs_session.proofs.session.Session.begin.Goals as goal
 
 pub returns-clause-coming : goal.returns-clause-coming
 returns-clause-coming c = λ bytes messages it stands empty.
     let limits = limits_of c.args.self.now.framer in
     let coming = c.new-coming.ensures limits it.head (ap (λ (l : Limits). l.json) (sym c.limits.ensures))
-    (record {
-      method = c.method.ensures bytes messages it stands;
-      target = c.target.ensures bytes messages it stands;
-      method_override = field_copied _ _ (c.field.ensures bytes messages it stands);
-      content_type = field_copied _ _ (c.field-2.ensures bytes messages it stands);
-      content_encoding = field_copied _ _ (c.field-3.ensures bytes messages it stands);
-      range = field_copied _ _ (c.field-4.ensures bytes messages it stands);
-    })
+    (c.read-fields.ensures bytes messages it stands)
     (sym (c.minor.ensures bytes messages it stands)) in
     let keeps : Bool = stays it.head && not (1 + length messages == limits.requests) in
     subst (λ content. IsComing limits it.head content keeps c.new-coming.result) (sym empty)

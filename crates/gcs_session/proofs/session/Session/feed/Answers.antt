@@ -1,20 +1,32 @@
-use Rattle.std.proofs.Common.{◌≡◌, ◌∙◌, ◌++◌, [], take, refl, ap, sym, subst, arith}
+use Rattle.std.proofs.Common.{◌≡◌, ◌∙◌, ◌++◌, true, false, [], take, refl, ap, sym, subst, arith}
 use Rattle.gcs_http_in.specs.Message.{Message, whole, AllKeep}
 use Rattle.gcs_session.specs.declared.session.Session.{Session}
 use Rattle.gcs_session.specs.Session.{IsClosedBy, IsGatheredTo, IsReplied, Seen}
 use Rattle.gcs_session.specs.Unsent.{unsent_bytes}
-use Rattle.gcs_session.proofs.Feeding.{answer-some, fed-end, fed-fault, fed-none, fed-quiet, fixed-some}
+use Rattle.gcs_reply.proofs.Some.{fixed-some}
+use Rattle.gcs_session.proofs.Feeding.{answer-some, fed-end, fed-fault, fed-none, fed-quiet}
 use Rattle.gcs_session.proofs.session.Session.feed.Goals as goal
 
+-- where bytes wait, or the connection is closed, nothing was taken
+pub returns-then-waits-clause-want : goal.returns-then-waits-clause-want
+returns-then-waits-clause-want g c =
+    rw c.nothing.ensures (record { within = omega arith; want = c.waits.ensures.some c.if-waits.true; whole = λ e. absurd (cc); waits = λ some. refl; shut = λ e. refl })
+
 pub returns-then-waits-clause-fed : goal.returns-then-waits-clause-fed
-returns-then-waits-clause-fed g c = λ bytes messages text drained x. fed-none _ _ _ _ _ bytes messages text drained x
+returns-then-waits-clause-fed g c = rw c.nothing.ensures (λ bytes messages text drained x. fed-none _ _ _ _ _ bytes messages text drained x)
 
 pub returns-then-self-clause-want : goal.returns-then-self-clause-want
 returns-then-self-clause-want g c =
-    record { within = omega arith; want = (c.waits.ensures.none c.if-waits.false, c.if-self.true); whole = λ e. absurd (cc) }
+    rw c.nothing-then-self.ensures (record {
+      within = omega arith;
+      want = (c.waits.ensures.none c.if-waits.false, c.if-self.true);
+      whole = λ e. absurd (cc);
+      waits = λ some. refl;
+      shut = λ e. refl;
+    })
 
 pub returns-then-self-clause-fed : goal.returns-then-self-clause-fed
-returns-then-self-clause-fed g c = λ bytes messages text drained x. fed-none _ _ _ _ _ bytes messages text drained x
+returns-then-self-clause-fed g c = rw c.nothing-then-self.ensures (λ bytes messages text drained x. fed-none _ _ _ _ _ bytes messages text drained x)
 
 -- nothing waits, and the connection is open: so it stays where nothing was answered
 pub returns-in-More-clause-want : goal.returns-in-More-clause-want
@@ -24,6 +36,8 @@ returns-in-More-clause-want g c =
       within = k.within;
       want = (ap unsent_bytes k.unsent ∙ c.waits.ensures.none c.if-waits.false, k.closed ∙ c.if-self.false);
       whole = λ e. k.whole c.in-More.is;
+      waits = λ some. absurd (some (c.waits.ensures.none c.if-waits.false));
+      shut = λ e. absurd (let other : true ≡ false = sym e ∙ c.if-self.false in cc);
     }
 
 pub returns-in-More-clause-fed : goal.returns-in-More-clause-fed
@@ -48,6 +62,8 @@ returns-in-End-clause-want g c =
       within = c.gather-taken.ensures.within;
       want = answer-some _ (whole k.0.head k.0.content k.1) r.moments _ _ _ _ _ r.answers;
       whole = λ e. absurd (cc);
+      waits = λ some. absurd (some (c.waits.ensures.none c.if-waits.false));
+      shut = λ e. absurd (let other : true ≡ false = sym e ∙ c.if-self.false in cc);
     }
 
 pub returns-in-End-clause-fed : goal.returns-in-End-clause-fed
@@ -68,7 +84,13 @@ returns-in-End-clause-fed g c = λ bytes messages text drained x.
 
 pub returns-in-Fault-clause-want : goal.returns-in-Fault-clause-want
 returns-in-Fault-clause-want g c =
-    record { within = c.gather-taken.ensures.within; want = λ none. fixed-some _ (sym c.refuse.ensures.reply ∙ none); whole = λ e. absurd (cc) }
+    record {
+      within = c.gather-taken.ensures.within;
+      want = λ none. fixed-some _ (sym c.refuse.ensures.reply ∙ none);
+      whole = λ e. absurd (cc);
+      waits = λ some. absurd (some (c.waits.ensures.none c.if-waits.false));
+      shut = λ e. absurd (let other : true ≡ false = sym e ∙ c.if-self.false in cc);
+    }
 
 pub returns-in-Fault-clause-fed : goal.returns-in-Fault-clause-fed
 returns-in-Fault-clause-fed g c = λ bytes messages text drained x.

@@ -1,6 +1,6 @@
 use Rattle.std.proofs.Common.{◌∙◌, sym, eq-eqb, arith}
 use Rattle.std.proofs.lemmas.Bool.{eqb-true}
-use Rattle.gcs_session.specs.Running.{outgoing_bytes}
+use Rattle.gcs_reply.specs.Outgoing.{outgoing_bytes}
 use Rattle.gcs_session.proofs.Drops.{all-gone, nothing-left}
 use Rattle.gcs_session.proofs.unsent.Unsent.is_empty.Goals as goal
 
