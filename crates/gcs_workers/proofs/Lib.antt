@@ -1,0 +1,4 @@
+pub mod ListenerLemmas
+pub mod Opened
+pub mod PositionalLemmas
+pub mod ServingLemmas

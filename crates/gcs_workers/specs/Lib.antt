@@ -1,0 +1,9 @@
+pub mod Alone
+pub mod Listener
+pub mod Memory
+pub mod Positionals
+pub mod Refusal
+pub mod Serving
+pub mod Status
+pub mod Told
+pub mod Words
