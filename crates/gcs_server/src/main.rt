@@ -1,38 +1,92 @@
-//! The program: a Cloud Storage server over standard input and output.
+//! The program: a Cloud Storage server over TCP, or over standard input and output.
 #![tactic(auto)]
 
 use gcs_io::{StdSink, StdSource, SystemClock};
 use gcs_meaning::Text;
-use gcs_session::{Word, run_alone};
-use std::alloc::Global;
+use gcs_workers::{
+    Status, TcpPairs, Word, WordsFault, Work, check_workers, read_words, run_alone, run_serve,
+};
+use std::alloc::{AllocError, Global};
+use std::env;
+use std::io::ErrorKind;
+use std::net::{Net, TcpListener, TcpStream};
 use std::process::ExitCode;
-use std::{env, io};
+use std::rt::Clock;
+use std::sync::Wait;
+use std::time::Duration;
 
-fn main(rt: HostRuntime) -> io::Result<ExitCode> {
+/// For how many seconds a connection may stand still before it is ended.
+const IDLE_SECONDS: u64 = 5;
+
+fn main(rt: HostRuntime) -> ExitCode {
     let alloc = rt.alloc();
-    let words = words(&rt, alloc)?;
+    let Ok(words) = words(&rt, alloc) else {
+        return ExitCode::from(Status::NoMemory.number());
+    };
+    let status = match read_words(alloc, &words) {
+        Ok(
+            Work::Serve {
+                address,
+                workers,
+                connections,
+            },
+        ) => match check_workers(workers, &mut StdSink::new(rt.stderr())) {
+            Ok(()) => serve(&rt, alloc, address.as_str(), connections).number(),
+            Err(status) => status.number(),
+        },
+        Ok(Work::Stdio { bucket: _bucket }) => alone(&rt, alloc, &words),
+        Err(WordsFault::Bad) => alone(&rt, alloc, &words),
+        Err(WordsFault::NoMemory) => Status::NoMemory.number(),
+    };
+    ExitCode::from(status)
+}
+
+// The words behind the program's name. Words that aren't text are as good as none, since both are refused.
+fn words(rt: &HostRuntime, alloc: Global) -> Result<Vec<Word>, AllocError> {
+    let mut words = Vec::new(alloc);
+    match env::args(rt) {
+        Ok(arguments) => {
+            for word in arguments.skip(1) {
+                words.push(Text::from_str(alloc, word.as_str())?)?;
+            }
+        }
+        Err(e) if e.kind() == ErrorKind::OutOfMemory => return Err(AllocError),
+        Err(_) => {}
+    }
+    Ok(words)
+}
+
+// Binds the address, says on the error output which it is, and serves its connections.
+fn serve<R>(rt: &R, alloc: Global, address: &str, connections: Option<u32>) -> Status
+where
+    R: Net<Listener = TcpListener, Stream = TcpStream> + Wait + Clock + Eprint,
+{
+    let Ok(listener) = TcpListener::bind(rt, address) else {
+        return Status::ListenFault;
+    };
+    let Ok(bound) = listener.local_addr() else {
+        return Status::ListenFault;
+    };
+    if eprintln!(rt; "gcs_server: listening on {bound}").is_err() {
+        return Status::WriteFault;
+    }
+    let idle = Duration::from_secs(IDLE_SECONDS);
+    let mut pairs = TcpPairs::new(listener, rt, idle, connections);
+    run_serve(rt, alloc, &mut pairs)
+}
+
+// Serves standard input and output, or refuses the words.
+fn alone(rt: &HostRuntime, alloc: Global, words: &[Word]) -> u8 {
     let mut input = StdSource::new(rt.stdin());
     let mut output = StdSink::new(rt.stdout());
     let mut errors = StdSink::new(rt.stderr());
     let mut clock = SystemClock::new(rt);
-    let status = run_alone(
+    run_alone(
         alloc,
-        &words,
+        words,
         &mut input,
         &mut output,
         &mut errors,
         &mut clock,
-    );
-    Ok(ExitCode::from(status))
-}
-
-// The words of the command line behind the program's name. Words that are no text are as good as none: both are refused.
-fn words(rt: &HostRuntime, alloc: Global) -> io::Result<Vec<Word>> {
-    let mut words = Vec::new(alloc);
-    if let Ok(arguments) = env::args(rt) {
-        for word in arguments.skip(1) {
-            words.push(Text::from_str(alloc, word.as_str())?)?;
-        }
-    }
-    Ok(words)
+    )
 }
