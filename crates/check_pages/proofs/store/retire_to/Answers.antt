@@ -4,7 +4,7 @@ use Rattle.gcs_meaning.specs.declared.version.Row.{Row}
 use Rattle.gcs_meaning.specs.Choosing.{is_readable}
 use Rattle.gcs_versions.proofs.Choices.{chosen_version}
 use Rattle.gcs_versions.proofs.Finding.{first_if}
-use Rattle.gcs_pages.proofs.store.retire_to.Goals as goal
+use Rattle.check_pages.proofs.store.retire_to.Goals as goal
 
 pub retire-requires-clause-there : goal.retire-requires-clause-there
 retire-requires-clause-there g c =

@@ -33,6 +33,8 @@ pub enum Failure {
         wanted: u8,
         found: u8,
     },
+    /// The session that is fed by hand.
+    ByHand,
     NoMemory,
 }
 
@@ -105,6 +107,7 @@ impl fmt::Display for Failure {
             Failure::Status { wanted, found } => {
                 write!(f, "the program's status must be {wanted}, and is {found}")
             }
+            Failure::ByHand => write!(f, "a step of the session is not as it must be"),
             Failure::NoMemory => write!(f, "no memory"),
         }
     }

@@ -1,4 +1,4 @@
-use Rattle.gcs_pages.proofs.main.Given as goal
+use Rattle.check_pages.proofs.main.Given as goal
 
 -- the looks at the versions are counted on a ledger of their own
 abbrev pub ghosts-compare_all : goal.ghosts-compare_all

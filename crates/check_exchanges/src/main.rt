@@ -1,6 +1,7 @@
 //! Worked exchanges: what clients send and what must be written back, as files, and a line a row that tells whether it is.
 #![tactic(auto)]
 
+mod by_hand;
 mod course;
 mod failure;
 mod limits;
@@ -11,6 +12,7 @@ mod store;
 mod trying;
 mod wire;
 
+use by_hand::try_by_hand;
 use failure::Failure;
 use row::{Row, read_rows};
 use std::alloc::{AllocError, Global};
@@ -20,7 +22,13 @@ use std::{env, fs, io};
 use trying::try_row;
 
 fn main(rt: HostRuntime) -> io::Result<ExitCode> {
-    let mut all_ok = true;
+    let by_hand = try_by_hand(rt.alloc());
+    let mut all_ok = report(
+        &rt,
+        "a_session_is_fed_and_drained_by_hand",
+        "by hand",
+        by_hand,
+    )?;
     for path in env::args(&rt)?.skip(1) {
         all_ok &= run_file(&rt, path.as_str())?;
     }
@@ -43,8 +51,17 @@ fn run_file(rt: &(impl Files + Print + AllocGlobal), path: &str) -> io::Result<b
 }
 
 fn run_row(rt: &impl Print, alloc: Global, path: &str, row: &Row<'_>) -> io::Result<bool> {
-    let name = row.name;
-    match try_row(alloc, row) {
+    report(rt, row.name, path, try_row(alloc, row))
+}
+
+// Prints the line of a row, and answers whether it is as it must be.
+fn report(
+    rt: &impl Print,
+    name: &str,
+    path: &str,
+    outcome: Result<(), Failure>,
+) -> io::Result<bool> {
+    match outcome {
         Ok(()) => {
             println!(rt; "ok {name}")?;
             Ok(true)

@@ -8,7 +8,8 @@ use gcs_bucket::PlainDesk;
 use gcs_chunks::Chunks;
 use gcs_io::{ListClock, StdSink, StdSource};
 use gcs_meaning::Text;
-use gcs_session::{SessionEnd, run_alone, serve_connection};
+use gcs_session::{SessionEnd, serve_connection};
+use gcs_workers::run_alone;
 use std::alloc::{AllocError, Global};
 
 /// What came of a row.
