@@ -1,7 +1,7 @@
 -- What was taken of a piece without an event.
 use Rattle.std.proofs.Common.{◌≡◌, Some, None, subst, refl, take-add, length-drop, ℕ, ◌+◌, ◌<◌, ◌≤◌, List, [], ◌∷◌, ◌++◌, ◌-◌, length, take, drop, get_or, arith, Option, sym, ap, ◌∙◌, append-nil, append_assoc}
-use Rattle.std.proofs.lemmas.List.{take_more, drop_more, take-take, take_at, length-append, length-take-le}
-use Rattle.std.proofs.Math.Seq.{take-append-add}
+use Rattle.std.proofs.lemmas.List.{take_more, drop_more, take-take, take_at, length-append, length-take-le, take-append-drop}
+use Rattle.std.proofs.Math.Seq.{take-append-add, take-length}
 use Rattle.gcs_multipart.specs.declared.parts.State.{State}
 use Rattle.gcs_multipart.specs.declared.parts.State.TheVariants as state
 use Rattle.gcs_multipart.specs.declared.seek.Seeker.{Seeker}
@@ -11,7 +11,7 @@ use Rattle.gcs_multipart.specs.declared.parts.Parts.{Parts}
 use Rattle.gcs_multipart.specs.Delimiter.{IsBoundary}
 use Rattle.gcs_multipart.specs.Grammar.{Part}
 use Rattle.gcs_multipart.specs.declared.parts.Step.TheVariants as step
-use Rattle.gcs_multipart.specs.Stands.{Stands, StandsIn, InContent, Pushed, held_of}
+use Rattle.gcs_multipart.specs.Stands.{Stands, StandsIn, InBad, InContent, Pushed, held_of}
 
 pub record Feeds (p q : Parts) (piece : List ℕ) (at : ℕ) : Type 0 where
   pub within : at ≤ length piece
@@ -152,3 +152,21 @@ passed_told p new b bytes piece at m parts current lt fits few given seen n =
     ) in
     subst (λ (o : Option Part). IsTold p new b bytes piece at m parts o) (sym n.2.1)
     (told_by p new b bytes piece content at m parts it lt fits n.0 (omega (arith, few, n.1)) given sees n.2.2)
+
+-- lines that are too long stay so, whatever comes behind them
+bad_more : (b bytes more : List ℕ) (parts : List Part) (current : Option Part) → InBad b bytes parts current → InBad b (bytes ++ more) parts current
+bad_more b bytes more parts current i = record {
+  nothing = i.nothing;
+  front = i.front;
+  head = i.head;
+  rest = i.rest ++ more;
+  split = ap (λ (t : List ℕ). t ++ more) i.split ∙ append_assoc i.front (i.head ++ i.rest) more ∙ ap (λ (t : List ℕ). i.front ++ t) (append_assoc i.head i.rest more);
+  before = i.before;
+  long = i.long;
+}
+
+pub bad_told : (b bytes piece : List ℕ) (n : ℕ) (parts : List Part) (current : Option Part) → InBad b (bytes ++ take n piece) parts current → InBad b (bytes ++ take (length piece) piece) parts current
+bad_told b bytes piece n parts current i =
+    let whole : (bytes ++ take n piece) ++ drop n piece ≡ bytes ++ take (length piece) piece =
+    append_assoc bytes (take n piece) (drop n piece) ∙ ap (λ (t : List ℕ). bytes ++ t) (take-append-drop n piece ∙ sym (take-length piece)) in
+    subst (λ (t : List ℕ). InBad b t parts current) whole (bad_more b (bytes ++ take n piece) (drop n piece) parts current i)

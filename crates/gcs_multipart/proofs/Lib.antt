@@ -4,9 +4,9 @@ mod Passing
 mod Heads
 mod Feeding
 mod Fronts
-mod OneBody
+pub mod OneBody
 mod Standing
-mod FirstContents
+pub mod FirstContents
 mod WordLemmas
 mod FieldLemmas
 mod ParameterItems

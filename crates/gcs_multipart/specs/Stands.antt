@@ -93,7 +93,7 @@ Pushed p boundary step.Passed b bytes parts current =
 Pushed p boundary step.End b bytes parts current =
     (it : Part) × (current ≡ Some it) × Stands p boundary bytes (it ∷ parts) None
 Pushed p boundary step.Last b bytes parts current =
-    (IsBody boundary parts bytes × Stands p boundary bytes parts None)
+    ((current ≡ None) × IsBody boundary parts bytes × Stands p boundary bytes parts None)
     ⊎ ((it : Part) × (current ≡ Some it) × IsBody boundary (it ∷ parts) bytes × Stands p boundary bytes (it ∷ parts) None)
 Pushed p boundary step.Bad b bytes parts current = (p.state ≡ state.Bad) × InBad boundary bytes parts current
 
@@ -112,6 +112,15 @@ HoldsFew p step.Passed = p.seeker.held ≤ 1
 HoldsFew p step.End = Unit {0}
 HoldsFew p step.Last = Unit {0}
 HoldsFew p step.Bad = Unit {0}
+
+-- what a call took lies in a piece of so many bytes: all of it, or at least a byte; and content lies in what was taken
+abbrev pub IsInPiece : PartTaken → ℕ → Type 0
+IsInPiece (taken.More n) size = n ≡ size
+IsInPiece (taken.PartHead n) size = (0 < n) × (n ≤ size)
+IsInPiece (taken.Content n from to) size = (0 < n) × (n ≤ size) × (from ≤ to) × (to ≤ n)
+IsInPiece (taken.PartEnd n) size = (0 < n) × (n ≤ size)
+IsInPiece (taken.Last n) size = (0 < n) × (n ≤ size)
+IsInPiece (taken.BadPart n) size = (0 < n) × (n ≤ size)
 
 -- what a call tells of the bytes that it took: all of the piece, or at least a byte
 abbrev pub Told : Parts → List ℕ → PartTaken → List ℕ → List ℕ → List Part → Option Part → Type 0

@@ -61,7 +61,7 @@ pub enum PartTaken {
     Last {
         taken: usize,
     },
-    /// The lines of a part are too long. From here on each call says so.
+    /// The lines of a part are too long. From here on each call says so, and takes the whole piece.
     BadPart {
         taken: usize,
     },
@@ -93,7 +93,7 @@ impl Parts {
     ghost use Rattle.gcs_multipart.specs.Fields.{type_of};
     ghost use Rattle.gcs_multipart.specs.FirstContent.{IsFirstContent};
     ghost use Rattle.gcs_multipart.specs.Grammar.{IsBody, Part};
-    ghost use Rattle.gcs_multipart.specs.Stands.{Stands, Brings, HoldsFew, Tells, held_of};
+    ghost use Rattle.gcs_multipart.specs.Stands.{Stands, Brings, HoldsFew, IsInPiece, Tells, held_of};
 
     /// Parts of a body with this boundary, which has no CR, as none that `boundary` gives. `Err`: no memory.
     pub fn new(alloc: Global, boundary: &[u8]) -> Result<Parts, AllocError>
@@ -133,21 +133,26 @@ impl Parts {
     /// Whether the last delimiter came, so that the bytes are a whole body.
     pub fn is_over(&self) -> bool
         ensures whole { result ≡ true → (boundary bytes : List ℕ) (parts : List Part) (current : Option Part)
-            → Stands self.now boundary bytes parts current → IsBody boundary parts bytes }
+            → Stands self.now boundary bytes parts current → IsBody boundary parts bytes × (current ≡ None) }
         ensures none { result ≡ false → (boundary bytes : List ℕ) (parts : List Part) (current : Option Part) → IsBoundary boundary
             → Stands self.now boundary bytes parts current → (others : List Part) → IsBody boundary others bytes → ⊥ }
     {
         matches!(self.state, State::Last)
     }
 
-    /// How many bytes are held back: they may begin a delimiter. Where the body ends here, they are content.
+    /// How many bytes are held back: they may begin a delimiter. Where the body ends here, they are content. Where no
+    /// content comes, there are none.
     pub fn held_back(&self) -> usize
         ensures few { (boundary bytes : List ℕ) (parts : List Part) (it : Part)
             → Stands self.now boundary bytes parts (Some it) → result ≤ length boundary + 5 }
         ensures content { (boundary bytes : List ℕ) (it : Part) → IsBoundary boundary → Stands self.now boundary bytes [] (Some it)
             → (content : List ℕ) × IsFirstContent boundary bytes content × (length content ≡ length it.content + result) }
+        ensures none { (boundary bytes : List ℕ) (parts : List Part) → Stands self.now boundary bytes parts None → result ≡ 0 }
     {
-        self.seeker.held()
+        match self.state {
+            State::Content => self.seeker.held(),
+            _ => 0,
+        }
     }
 
     /// The value of the first `Content-Type` of the part whose content comes, without the blanks round it. A line that
@@ -233,7 +238,8 @@ impl Parts {
     /// Takes what comes of the piece, up to the first event. Where bytes of the piece are left, feed them next; read
     /// `held` before that.
     pub fn feed(&mut self, piece: &[u8]) -> PartTaken
-        ensures { Tells self.old self.new result piece.now }
+        ensures told { Tells self.old self.new result piece.now }
+        ensures within { IsInPiece result (length piece.now) }
     {
         let mut at = 0;
         while at < piece.len() {
@@ -252,7 +258,9 @@ impl Parts {
                 }
                 Step::End => return PartTaken::PartEnd { taken: at },
                 Step::Last => return PartTaken::Last { taken: at },
-                Step::Bad => return PartTaken::BadPart { taken: at },
+                Step::Bad => {
+                    return PartTaken::BadPart { taken: piece.len() };
+                }
             }
         }
         PartTaken::More { taken: at }

@@ -23,7 +23,7 @@ returns-in-Found-Last-clause-brought c = λ b bytes parts current is h.
     let n = c.in-Found-Last.ensures.next b (13 ∷ 10 ∷ bytes) i.passed is i.seeks in
     let all : AreParts b mark.Last parts (bytes ++ c.args.byte ∷ []) = subst (λ (ps : List Part). AreParts b mark.Last ps (bytes ++ c.args.byte ∷ [])) (sym i.none) (i.passed, subst (λ (m : Mark). EndsAt b (13 ∷ 10 ∷ (bytes ++ c.args.byte ∷ [])) i.passed m) c.in-Found-Last.field-0-is n.0) in
     let body : IsBody b parts (bytes ++ c.args.byte ∷ []) = (bytes ++ c.args.byte ∷ [], [], sym (append-nil (bytes ++ c.args.byte ∷ [])), all) in
-    inl (body, record { nothing = refl; body = body })
+    inl (i.nothing, body, record { nothing = refl; body = body })
 
 pub returns-in-Found-Next-clause-brought : goal.returns-in-Found-Next-clause-brought
 returns-in-Found-Next-clause-brought c = λ b bytes parts current is h.
