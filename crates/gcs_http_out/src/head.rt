@@ -7,6 +7,7 @@ ghost use Rattle.gcs_http_out.specs.Head.{
   field_lines,
   length_line,
   ending_line,
+  line_end,
   head_text,
   texts_of,
   IsSameHead,
@@ -75,12 +76,41 @@ pub fn head_bytes(alloc: Global, head: &ReplyHead) -> Result<Vec<u8>, AllocError
         ≡ head_text head.now.status (texts_of head.now.fields.items) head.now.length head.now.ending) }
 {
     let mut bytes = Vec::new(alloc);
-    bytes.extend_from_slice(status_bytes(head.status))?;
+    push_status(&mut bytes, head.status)?;
     push_fields(&mut bytes, &head.fields)?;
-    push_length(alloc, &mut bytes, head.length)?;
-    bytes.extend_from_slice(ending_bytes(head.ending))?;
-    bytes.extend_from_slice(b"\r\n")?;
+    push_end(&mut bytes, head.length, head.ending)?;
     Ok(bytes)
+}
+
+/// Writes a status line behind what `bytes` holds (RFC 9112, section 4). `Err`: no memory.
+pub fn push_status(bytes: &mut Vec<u8>, status: u16) -> Result<(), AllocError>
+    requires known { IsStatus status }
+    ensures { OnOk result (bytes.new.items ≡ bytes.old.items ++ status_line status) }
+{
+    bytes.extend_from_slice(status_bytes(status))
+}
+
+/// Writes a field line behind what `bytes` holds (RFC 9112, section 5). The name and the value are written as they are: the
+/// caller puts no CR or LF into them. `Err`: no memory.
+pub fn push_field(bytes: &mut Vec<u8>, name: &str, value: &str) -> Result<(), AllocError>
+    ensures { OnOk result (bytes.new.items ≡ bytes.old.items ++ field_line (name.now, value.now)) }
+{
+    bytes.extend_from_slice(name.as_bytes())?;
+    bytes.extend_from_slice(b": ")?;
+    bytes.extend_from_slice(value.as_bytes())?;
+    bytes.extend_from_slice(b"\r\n")?;
+    Ok(())
+}
+
+/// Writes the end of a head behind what `bytes` holds: the length of the body, where it is told, what becomes of the
+/// connection, and the empty line. `Err`: no memory.
+pub fn push_end(bytes: &mut Vec<u8>, length: Option<u64>, ending: Ending) -> Result<(), AllocError>
+    ensures { OnOk result (bytes.new.items ≡ bytes.old.items ++ (length_line length ++ (ending_line ending ++ line_end))) }
+{
+    push_length(bytes, length)?;
+    bytes.extend_from_slice(ending_bytes(ending))?;
+    bytes.extend_from_slice(b"\r\n")?;
+    Ok(())
 }
 
 // The status line (RFC 9112, section 4).
@@ -120,23 +150,12 @@ fn push_fields(bytes: &mut Vec<u8>, fields: &[(String, String)]) -> Result<(), A
     Ok(())
 }
 
-// A field line (RFC 9112, section 5).
-fn push_field(bytes: &mut Vec<u8>, name: &str, value: &str) -> Result<(), AllocError>
-    ensures { OnOk result (bytes.new.items ≡ bytes.old.items ++ field_line (name.now, value.now)) }
-{
-    bytes.extend_from_slice(name.as_bytes())?;
-    bytes.extend_from_slice(b": ")?;
-    bytes.extend_from_slice(value.as_bytes())?;
-    bytes.extend_from_slice(b"\r\n")?;
-    Ok(())
-}
-
-fn push_length(alloc: Global, bytes: &mut Vec<u8>, length: Option<u64>) -> Result<(), AllocError>
+fn push_length(bytes: &mut Vec<u8>, length: Option<u64>) -> Result<(), AllocError>
     ensures { OnOk result (bytes.new.items ≡ bytes.old.items ++ length_line length) }
 {
     if let Some(length) = length {
-        let text = length.to_string(alloc)?;
-        push_field(bytes, "Content-Length", &text)?;
+        let mut digits = itoa::Buffer::new();
+        push_field(bytes, "Content-Length", digits.format(length))?;
     }
     Ok(())
 }

@@ -7,5 +7,5 @@ mod head;
 mod reply;
 
 pub use constants::fixed;
-pub use head::{Ending, ReplyHead, head_bytes};
+pub use head::{Ending, ReplyHead, head_bytes, push_end, push_field, push_status};
 pub use reply::{Fixed, FixedText};
