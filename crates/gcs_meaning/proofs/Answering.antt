@@ -1,76 +1,148 @@
 -- Each command gets an answer of its kind, and an answer is found by its entry's numbers.
-use Rattle.std.proofs.Common.{◌≡◌, ℕ, Bool, true, false, List, [], ◌∷◌, ◌++◌, Option, Some, None, refl, ap, sym, subst, ◌∙◌, eq-eqb, arith}
+use Rattle.std.proofs.Common.{◌≡◌, ℕ, Bool, true, false, List, [], ◌∷◌, ◌++◌, Option, Some, None, length, refl, ap, sym, subst, ◌∙◌, eq-eqb, arith}
 use Rattle.std.specs.Prelude.{◌==◌, ◌&&◌, if◌then◌else◌}
 use Rattle.std.specs.List.{AllByRecursion}
+use Rattle.gcs_chunks.specs.Content.{Whole, bytes_of}
+use Rattle.gcs_meaning.specs.declared.reason.Reason.{Reason}
+use Rattle.gcs_meaning.specs.declared.settings.Settings.{Settings}
+use Rattle.gcs_meaning.specs.declared.uploading.Progress.{Progress}
+use Rattle.gcs_meaning.specs.declared.uploading.Progress.TheVariants.{Kept, Complete}
+use Rattle.gcs_meaning.specs.declared.uploading.Upload.{Upload}
+use Rattle.gcs_meaning.specs.declared.uploading.UploadState.{UploadState}
+use Rattle.gcs_meaning.specs.declared.uploading.UploadState.TheVariants.{Running, Done, Cancelled, Expired}
 use Rattle.gcs_meaning.specs.declared.command.Answer.{Answer}
 use Rattle.gcs_meaning.specs.declared.command.Command.{Command}
-use Rattle.gcs_meaning.specs.declared.command.Command.TheVariants.{BucketInsert, BucketList, BucketGet, BucketChange, BucketDelete, List as Listing, Get, Change, Delete, Put}
+use Rattle.gcs_meaning.specs.declared.command.Command.TheVariants.{BucketInsert, BucketList, BucketGet, BucketChange, BucketDelete, BucketLock, BucketRestore, List as Listing, Get, Change, Delete, Put, Compose, Restore, Start, Append, Finish, Cancel}
 use Rattle.gcs_meaning.specs.declared.command.Entry.{Entry}
 use Rattle.gcs_meaning.specs.Moment.{effective_moment}
 use Rattle.gcs_meaning.specs.Slot.{Slot, fresh_slot}
 use Rattle.gcs_meaning.specs.Aging.{aged}
-use Rattle.gcs_meaning.specs.Step.{IsBuilt, step, command_step}
-use Rattle.gcs_meaning.specs.History.{Slots, first_step, slot_step, slot_of, shard_step, replay_from, replay, is_entry, answer_from, answer_at, AreDistinct}
+use Rattle.gcs_meaning.specs.Uploads.{UploadMap, Outcome, answers, refuses, called_at, upload_of}
+use Rattle.gcs_meaning.specs.UploadCalls.{answer_by}
+use Rattle.gcs_meaning.specs.Append.{progress_of, piece_refusal, grown_upload, appended_if, appended_in, appended, append_at}
+use Rattle.gcs_meaning.specs.Cancel.{cancelled_in, cancelled, cancel_at}
+use Rattle.gcs_meaning.specs.Step.{step, command_step}
+use Rattle.gcs_meaning.specs.History.{Slots, bucket_of, first_step, slot_step, slot_of, unnamed_answer, named_step, shard_step, replay_from, replay, is_entry, answer_from, answer_at, AreDistinct}
 use Rattle.gcs_meaning.specs.Laws.{is_answer_to, AnswersFit}
-use Rattle.gcs_meaning.proofs.Cases.{insert_cases, bucket_get_cases, bucket_change_cases, bucket_delete_cases, list_cases, get_cases, change_cases, delete_cases, put_cases}
+use Rattle.gcs_meaning.proofs.Cases.{insert_cases, bucket_get_cases, bucket_change_cases, bucket_delete_cases, bucket_lock_cases, bucket_restore_cases, list_cases, get_cases, change_cases, delete_cases, put_cases, compose_cases, restore_cases, start_cases, append_cases, finish_cases, cancel_cases}
 
 -- what a command answers is of its kind
 abbrev IsKind : Command → Answer × Slot → Type 0
 IsKind command done = is_answer_to command done.0 ≡ true
 
-command_kind : (command : Command) (slot : Slot) (t : ℕ) → IsBuilt command → is_answer_to command (command_step slot t command).0 ≡ true
-command_kind (BucketInsert bucket settings) slot t built = insert_cases (IsKind (BucketInsert bucket settings)) slot t bucket settings (λ reason. refl) (λ free. refl)
-command_kind (BucketList shard prefix after most) slot t built = refl
-command_kind (BucketGet bucket pre) slot t built = bucket_get_cases (IsKind (BucketGet bucket pre)) slot bucket pre (λ reason. refl) (λ s. refl)
-command_kind (BucketChange bucket pre change whole) slot t built =
+-- a piece isn't answered by the end of its upload, and a cancelling not by what is kept
+abbrev AnswersKind : Command → Outcome → Type 0
+AnswersKind command (refuses reason) = Unit {0}
+AnswersKind command (answers progress) = (settings : Settings) → is_answer_to command (answer_by progress settings) ≡ true
+
+kind_of : (command : Command) (outcome : Outcome) (progress : Progress) → outcome ≡ answers progress → AnswersKind command outcome
+    → (settings : Settings) → is_answer_to command (answer_by progress settings) ≡ true
+kind_of command outcome progress is h = subst (AnswersKind command) is h
+
+called_kind : (command : Command) (found : Option Upload) (call : Upload → Outcome × Upload) (number : ℕ) (uploads : UploadMap) → ((upload : Upload) → AnswersKind command (call upload).0)
+    → AnswersKind command (called_at found call number uploads).0
+called_kind command None call number uploads each = tt
+called_kind command (Some upload) call number uploads each = each upload
+
+module _ (bucket : List ℕ) (number : ℕ) (offset given : Option ℕ) (piece : Whole) where
+  progress_kind : (total : Option ℕ) (content : Whole) → AnswersKind (Append bucket number offset given piece) (answers (progress_of total content))
+  progress_kind None content settings = refl
+  progress_kind (Some total) content settings = by (length (bytes_of content) == total)
+    where
+      by : (b : Bool) → is_answer_to (Append bucket number offset given piece) (answer_by (if b then Complete content else Kept (length (bytes_of content))) settings) ≡ true
+      by true = refl
+      by false = refl
+
+  appended_if_kind : (refusal : Option Reason) (upload after : Upload) → AnswersKind (Append bucket number offset given piece) (appended_if refusal upload after).0
+  appended_if_kind (Some reason) upload after = tt
+  appended_if_kind None upload after = progress_kind after.total after.content
+
+  appended_in_kind : (state : UploadState) (upload : Upload) → AnswersKind (Append bucket number offset given piece) (appended_in state upload offset given piece).0
+  appended_in_kind Running upload = appended_if_kind (piece_refusal upload offset given piece) upload (grown_upload upload offset given piece)
+  appended_in_kind (Done row) upload = λ settings. refl
+  appended_in_kind Cancelled upload = tt
+  appended_in_kind Expired upload = tt
+
+  append_kind : (uploads : UploadMap) → AnswersKind (Append bucket number offset given piece) (append_at number offset given piece uploads).0
+  unfolding append_at appended
+  append_kind uploads =
+      called_kind (Append bucket number offset given piece) (upload_of number uploads) (λ upload. appended upload offset given piece) number uploads
+      (λ upload. appended_in_kind upload.state upload)
+
+cancelled_in_kind : (bucket : List ℕ) (number : ℕ) (state : UploadState) (upload : Upload) → AnswersKind (Cancel bucket number) (cancelled_in state upload).0
+cancelled_in_kind bucket number Running upload = λ settings. refl
+cancelled_in_kind bucket number (Done row) upload = λ settings. refl
+cancelled_in_kind bucket number Cancelled upload = tt
+cancelled_in_kind bucket number Expired upload = tt
+
+cancel_kind : (bucket : List ℕ) (number : ℕ) (uploads : UploadMap) → AnswersKind (Cancel bucket number) (cancel_at number uploads).0
+unfolding cancel_at cancelled
+cancel_kind bucket number uploads =
+    called_kind (Cancel bucket number) (upload_of number uploads) cancelled number uploads (λ upload. cancelled_in_kind bucket number upload.state upload)
+
+command_kind : (command : Command) (slot : Slot) (t : ℕ) → is_answer_to command (command_step slot t command).0 ≡ true
+command_kind (BucketInsert bucket settings) slot t = insert_cases (IsKind (BucketInsert bucket settings)) slot t bucket settings (λ reason. refl) (λ free. refl)
+command_kind (BucketList shard prefix after most) slot t = refl
+command_kind (BucketGet bucket pre) slot t = bucket_get_cases (IsKind (BucketGet bucket pre)) slot bucket pre (λ reason. refl) (λ s. refl)
+command_kind (BucketChange bucket pre change whole) slot t =
     bucket_change_cases (IsKind (BucketChange bucket pre change whole)) slot t bucket pre change whole (λ reason. refl) (λ s is passed. refl)
-command_kind (BucketDelete bucket pre) slot t built = bucket_delete_cases (IsKind (BucketDelete bucket pre)) slot t pre (λ reason. refl) (λ s is passed. refl)
-command_kind (Listing bucket query) slot t built = list_cases (IsKind (Listing bucket query)) slot query (λ reason. refl) (λ s. refl)
-command_kind (Get bucket name generation soft pre) slot t built =
+command_kind (BucketDelete bucket pre) slot t = bucket_delete_cases (IsKind (BucketDelete bucket pre)) slot t pre (λ reason. refl) (λ s is passed. refl)
+command_kind (BucketLock bucket pre) slot t = bucket_lock_cases (IsKind (BucketLock bucket pre)) slot t bucket pre (λ reason. refl) (λ s is. refl)
+command_kind (BucketRestore bucket generation) slot t =
+    bucket_restore_cases (IsKind (BucketRestore bucket generation)) slot t bucket generation (λ reason. refl) (λ g found free. refl)
+command_kind (Listing bucket query) slot t = list_cases (IsKind (Listing bucket query)) slot query (λ reason. refl) (λ s. refl)
+command_kind (Get bucket name generation soft pre) slot t =
     get_cases (IsKind (Get bucket name generation soft pre)) slot name generation soft pre (λ reason. refl) (λ row settings. refl)
-command_kind (Change bucket name generation pre change whole) slot t built =
+command_kind (Change bucket name generation pre change whole) slot t =
     change_cases (IsKind (Change bucket name generation pre change whole)) slot t name generation pre change whole (λ reason. refl) (λ s row is found. refl)
-command_kind (Delete bucket name generation pre) slot t built =
+command_kind (Delete bucket name generation pre) slot t =
     delete_cases (IsKind (Delete bucket name generation pre)) slot t name generation pre (λ reason. refl) (λ s row is found passed. refl)
-command_kind (Put bucket name pre meta hashed components expect) slot t built =
-    put_cases (IsKind (Put bucket name pre meta hashed components expect)) slot t name pre meta hashed components expect (λ reason. refl) (λ s is passed. refl)
-command_kind _ slot t built = absurd built
+command_kind (Put bucket name pre meta hashed components expect) slot t =
+    put_cases (IsKind (Put bucket name pre meta hashed components expect)) slot t name pre meta hashed components expect (λ reason. refl)
+    (λ s name pre meta hashed components expect is passed. refl)
+command_kind (Compose bucket name pre meta parts) slot t =
+    compose_cases (IsKind (Compose bucket name pre meta parts)) slot t name pre meta parts (λ reason. refl) (λ s name pre meta hashed components expect is passed. refl)
+command_kind (Restore bucket name generation pre) slot t =
+    restore_cases (IsKind (Restore bucket name generation pre)) slot t name generation pre (λ reason. refl) (λ s name pre meta hashed components expect is passed. refl)
+command_kind (Start bucket name pre meta expect total) slot t =
+    start_cases (IsKind (Start bucket name pre meta expect total)) slot t name pre meta expect total (λ reason. refl) (λ s is. refl)
+command_kind (Append bucket number offset given piece) slot t =
+    append_cases (IsKind (Append bucket number offset given piece)) slot number offset given piece (λ reason. refl)
+    (λ s progress is answered. kind_of (Append bucket number offset given piece) _ progress answered (append_kind bucket number offset given piece s.uploads) s.settings)
+command_kind (Finish bucket number hashed) slot t =
+    finish_cases (IsKind (Finish bucket number hashed)) slot t number (λ reason. refl)
+    (record { keeps = λ n. refl; was_done = λ s upload row is found ended. refl; makes = λ s upload is found runs passed. refl })
+command_kind (Cancel bucket number) slot t =
+    cancel_cases (IsKind (Cancel bucket number)) slot number (λ reason. refl)
+    (λ s progress is answered. kind_of (Cancel bucket number) _ progress answered (cancel_kind bucket number s.uploads) s.settings)
 
-step_kind : (slot : Slot) (moment : ℕ) (command : Command) → IsBuilt command → is_answer_to command (step slot moment command).0 ≡ true
-step_kind slot moment command built =
+step_kind : (slot : Slot) (moment : ℕ) (command : Command) → is_answer_to command (step slot moment command).0 ≡ true
+step_kind slot moment command =
     let t : ℕ = effective_moment slot.last_moment moment in
-    command_kind command (aged slot t) t built
+    command_kind command (aged slot t) t
 
-first_kind : (command : Command) (name : List ℕ) (slots : Slots) (moment : ℕ) → IsBuilt command → is_answer_to command (first_step name slots moment command).0 ≡ true
-first_kind (BucketInsert bucket settings) name slots moment built = step_kind fresh_slot moment (BucketInsert bucket settings) built
-first_kind (BucketList shard prefix after most) name slots moment built = refl
-first_kind (BucketGet bucket pre) name slots moment built = refl
-first_kind (BucketChange bucket pre change whole) name slots moment built = refl
-first_kind (BucketDelete bucket pre) name slots moment built = refl
-first_kind (Listing bucket query) name slots moment built = refl
-first_kind (Get bucket object generation soft pre) name slots moment built = refl
-first_kind (Change bucket object generation pre change whole) name slots moment built = refl
-first_kind (Delete bucket object generation pre) name slots moment built = refl
-first_kind (Put bucket object pre meta hashed components expect) name slots moment built = refl
-first_kind _ name slots moment built = absurd built
+-- a command on a name without a slot
+first_kind : (command : Command) (name : List ℕ) (slots : Slots) (moment : ℕ) → is_answer_to command (first_step name slots moment command).0 ≡ true
+first_kind (BucketInsert bucket settings) name slots moment = step_kind fresh_slot moment (BucketInsert bucket settings)
+first_kind (BucketRestore bucket generation) name slots moment = refl
+first_kind _ name slots moment = refl
 
-slot_kind : (found : Option Slot) (name : List ℕ) (slots : Slots) (moment : ℕ) (command : Command) → IsBuilt command → is_answer_to command (slot_step found name slots moment command).0 ≡ true
-slot_kind (Some slot) name slots moment command built = step_kind slot moment command built
-slot_kind None name slots moment command built = first_kind command name slots moment built
+slot_kind : (found : Option Slot) (name : List ℕ) (slots : Slots) (moment : ℕ) (command : Command) → is_answer_to command (slot_step found name slots moment command).0 ≡ true
+slot_kind (Some slot) name slots moment command = step_kind slot moment command
+slot_kind None name slots moment command = first_kind command name slots moment
 
-shard_kind : (command : Command) (slots : Slots) (moment : ℕ) → IsBuilt command → is_answer_to command (shard_step slots moment command).0 ≡ true
+-- a command that names no bucket
+unnamed_kind : (command : Command) (slots : Slots) → is_answer_to command (unnamed_answer slots command) ≡ true
+unnamed_kind (BucketList shard prefix after most) slots = refl
+unnamed_kind _ slots = refl
+
+named_kind : (named : Option (List ℕ)) (slots : Slots) (moment : ℕ) (command : Command) → is_answer_to command (named_step named slots moment command).0 ≡ true
+named_kind (Some name) slots moment command = slot_kind (slot_of name slots) name slots moment command
+named_kind None slots moment command = unnamed_kind command slots
+
+shard_kind : (command : Command) (slots : Slots) (moment : ℕ) → is_answer_to command (shard_step slots moment command).0 ≡ true
 unfolding shard_step
-shard_kind (BucketInsert bucket settings) slots moment built = slot_kind (slot_of bucket slots) bucket slots moment (BucketInsert bucket settings) built
-shard_kind (BucketList shard prefix after most) slots moment built = refl
-shard_kind (BucketGet bucket pre) slots moment built = slot_kind (slot_of bucket slots) bucket slots moment (BucketGet bucket pre) built
-shard_kind (BucketChange bucket pre change whole) slots moment built = slot_kind (slot_of bucket slots) bucket slots moment (BucketChange bucket pre change whole) built
-shard_kind (BucketDelete bucket pre) slots moment built = slot_kind (slot_of bucket slots) bucket slots moment (BucketDelete bucket pre) built
-shard_kind (Listing bucket query) slots moment built = slot_kind (slot_of bucket slots) bucket slots moment (Listing bucket query) built
-shard_kind (Get bucket name generation soft pre) slots moment built = slot_kind (slot_of bucket slots) bucket slots moment (Get bucket name generation soft pre) built
-shard_kind (Change bucket name generation pre change whole) slots moment built = slot_kind (slot_of bucket slots) bucket slots moment (Change bucket name generation pre change whole) built
-shard_kind (Delete bucket name generation pre) slots moment built = slot_kind (slot_of bucket slots) bucket slots moment (Delete bucket name generation pre) built
-shard_kind (Put bucket name pre meta hashed components expect) slots moment built = slot_kind (slot_of bucket slots) bucket slots moment (Put bucket name pre meta hashed components expect) built
-shard_kind _ slots moment built = absurd built
+shard_kind command slots moment = named_kind (bucket_of command) slots moment command
 
 -- an entry before this one has other numbers, so that the search goes on
 passes : (a b c d : ℕ) → ((c == a) && (d == b)) ≡ false → ((a == c) && (b == d)) ≡ false
@@ -91,7 +163,7 @@ found_from slots (b ∷ before) e after apart =
 
 pub answers_fit : AnswersFit
 answers_fit = record {
-  kinds = λ before moment command built. shard_kind command (replay before) moment built;
+  kinds = λ before moment command. shard_kind command (replay before) moment;
   found = λ history caller number moment command a apart at.
       let e : Entry = record { caller = caller; number = number; moment = moment; command = command } in
       let whole : history ≡ at.0 ++ e ∷ at.1 = at.2 in

@@ -25,12 +25,12 @@ end_later o p m n later after (Done row) h = row_later o p m n later after row h
 end_later o p m n later after Cancelled h = h
 end_later o p m n later after Expired h = h
 
-upload_later : (o p m n u : ℕ) → o ≤ p → m ≤ n → (numbered : ℕ × Upload) → IsFitUpload o m u numbered → IsFitUpload p n u numbered
-upload_later o p m n u later after numbered h =
-    record { number = h.number; start = omega (arith, h.start); kept = h.kept; end = end_later o p m n later after numbered.1.state h.end }
+upload_later : (o p m n u v : ℕ) → o ≤ p → m ≤ n → u ≤ v → (numbered : ℕ × Upload) → IsFitUpload o m u numbered → IsFitUpload p n v numbered
+upload_later o p m n u v later after more numbered h =
+    record { number = omega (arith, h.number, more); start = omega (arith, h.start); kept = h.kept; end = end_later o p m n later after numbered.1.state h.end }
 
-pub state_later : (o p m n u : ℕ) → o ≤ p → m ≤ n → (s : State) → IsFitState o m u s → IsFitState p n u s
-state_later o p m n u later after s h = record {
+pub state_later : (o p m n u v : ℕ) → o ≤ p → m ≤ n → u ≤ v → (s : State) → IsFitState o m u s → IsFitState p n v s
+state_later o p m n u v later after more s h = record {
   created = omega (arith, h.created);
   updated = omega (arith, h.updated);
   soft = omega (arith, h.soft);
@@ -38,11 +38,11 @@ state_later o p m n u later after s h = record {
   rows = all-weaker (IsFitRow o m) (IsFitRow p n) (row_later o p m n later after) s.rows h.rows;
   rise = h.rise;
   single = h.single;
-  uploads = all-weaker (IsFitUpload o m u) (IsFitUpload p n u) (upload_later o p m n u later after) s.uploads h.uploads;
+  uploads = all-weaker (IsFitUpload o m u) (IsFitUpload p n v) (upload_later o p m n u v later after more) s.uploads h.uploads;
 }
 
-pub grave_later : (o p m n u : ℕ) → o ≤ p → m ≤ n → (g : Grave) → IsFitGrave o m u g → IsFitGrave p n u g
-grave_later o p m n u later after g h = record { state = state_later o p m n u later after g.state h.state; soft = h.soft }
+pub grave_later : (o p m n u v : ℕ) → o ≤ p → m ≤ n → u ≤ v → (g : Grave) → IsFitGrave o m u g → IsFitGrave p n v g
+grave_later o p m n u v later after more g h = record { state = state_later o p m n u v later after more g.state h.state; soft = h.soft }
 
 -- ageing takes versions away and expires uploads
 end_aged : (late : Bool) (o m : ℕ) (state : UploadState) → IsFitEnd o m state → IsFitEnd o m (expired_if late state)
@@ -121,9 +121,10 @@ fit_later m n slot after h =
     let o : ℕ = slot.last_object in
     let u : ℕ = slot.next_upload in
     let same : o ≤ o = omega arith in
+    let still : u ≤ u = omega arith in
     record {
-      alive = some-weaker (IsFitState o slot.last_moment u) (IsFitState o n u) (state_later o o slot.last_moment n u same after) slot.alive h.alive;
-      graves = all-weaker (IsFitGrave o slot.last_moment u) (IsFitGrave o n u) (grave_later o o slot.last_moment n u same after) slot.graves h.graves;
+      alive = some-weaker (IsFitState o slot.last_moment u) (IsFitState o n u) (state_later o o slot.last_moment n u u same after still) slot.alive h.alive;
+      graves = all-weaker (IsFitGrave o slot.last_moment u) (IsFitGrave o n u) (grave_later o o slot.last_moment n u u same after still) slot.graves h.graves;
       counted = h.counted;
       differ = h.differ;
     }

@@ -1,5 +1,5 @@
 -- Facts of all members of a list, over what the rules of the store do to it.
-use Rattle.std.proofs.Common.{Bool, true, false, List, [], ◌∷◌, ◌++◌, Option, Some, None}
+use Rattle.std.proofs.Common.{inl, inr, refl, Bool, true, false, List, [], ◌∷◌, ◌++◌, Option, Some, None}
 use Rattle.std.specs.Prelude.{filter, map, if◌then◌else◌}
 use Rattle.std.specs.Option.{IfSome}
 use Rattle.std.specs.List.{AllByRecursion}
@@ -7,6 +7,7 @@ use Rattle.gcs_meaning.specs.declared.version.Row.{Row}
 use Rattle.gcs_meaning.specs.Retiring.{change_first}
 use Rattle.gcs_meaning.specs.Order.{comes_before, place_of}
 use Rattle.gcs_meaning.specs.Put.{with_row}
+use Rattle.gcs_meaning.specs.Keeping.{IsOneOf}
 
 pub all-filter : {X : Type 0} (P : X → Type 0) (q : X → Bool) (xs : List X) → AllByRecursion P xs → AllByRecursion P (filter q xs)
 all-filter P q [] h = h
@@ -27,6 +28,11 @@ all-weaker P Q weaker (x ∷ xs) h = (weaker x h.0, all-weaker P Q weaker xs h.1
 pub all-append : {X : Type 0} (P : X → Type 0) (xs ys : List X) → AllByRecursion P xs → AllByRecursion P ys → AllByRecursion P (xs ++ ys)
 all-append P [] ys h more = more
 all-append P (x ∷ xs) ys h more = (h.0, all-append P xs ys h.1 more)
+
+-- what holds of each member holds of all
+pub all-members : {X : Type 0} (P : X → Type 0) (xs : List X) → ((x : X) → IsOneOf xs x → P x) → AllByRecursion P xs
+all-members P [] each = tt
+all-members P (x ∷ xs) each = (each x (inl refl), all-members P xs (λ y is. each y (inr is)))
 
 pub some-weaker : {X : Type 0} (P Q : X → Type 0) → ((x : X) → P x → Q x) → (o : Option X) → IfSome o P → IfSome o Q
 some-weaker P Q weaker None h = h

@@ -1,6 +1,6 @@
 -- Members of a list, over what the rules of the store do to it.
-use Rattle.std.proofs.Common.{◌≡◌, inl, inr, Bool, true, false, List, [], ◌∷◌, ◌++◌, Some, ap, sym, subst}
-use Rattle.std.specs.Prelude.{filter, map, if◌then◌else◌}
+use Rattle.std.proofs.Common.{◌≡◌, inl, inr, Bool, true, false, List, [], ◌∷◌, ◌++◌, Some, refl, ap, sym, subst}
+use Rattle.std.specs.Prelude.{◌⊎◌, filter, map, if◌then◌else◌}
 use Rattle.std.specs.List.{find, AllByRecursion}
 use Rattle.gcs_meaning.specs.declared.version.Row.{Row}
 use Rattle.gcs_meaning.specs.Retiring.{change_first}
@@ -95,3 +95,28 @@ pub one-and-all : {X : Type 0} (P Q : X → Type 0) (xs : List X) → HoldsOfOne
 one-and-all P Q [] h all = h
 one-and-all P Q (x ∷ xs) (inl h) all = inl (h, all.0)
 one-and-all P Q (x ∷ xs) (inr h) all = inr (one-and-all P Q xs h all.1)
+
+-- the first that passes is taken away: what holds of one holds of it, or still of one
+pub one-taken : {X : Type 0} (P : X → Type 0) (p : X → Bool) (x : X) (xs : List X) → find p xs ≡ Some x → HoldsOfOne P xs → P x ⊎ HoldsOfOne P (change_first p (λ y. []) xs)
+one-taken P p x [] found h = absurd h
+one-taken {X} P p x (y ∷ ys) found h = by (p y) found h (one-taken P p x ys)
+  where
+    later : P x ⊎ HoldsOfOne P (change_first p (λ z. []) ys) → P x ⊎ HoldsOfOne P (y ∷ change_first p (λ z. []) ys)
+    later (inl it) = inl it
+    later (inr other) = inr (inr other)
+
+    by : (b : Bool) → (if b then Some y else find p ys) ≡ Some x → HoldsOfOne P (y ∷ ys) → (find p ys ≡ Some x → HoldsOfOne P ys → P x ⊎ HoldsOfOne P (change_first p (λ z. []) ys))
+        → P x ⊎ HoldsOfOne P (if b then ys else y ∷ change_first p (λ z. []) ys)
+    by true here (inl it) rest = inl (subst P (inside here) it)
+      where
+        inside : Some y ≡ Some x → y ≡ x
+        inside same = cc
+    by true here (inr other) rest = inr other
+    by false here (inl it) rest = inr (inl it)
+    by false here (inr other) rest = later (rest here other)
+
+-- one of which it holds
+pub one-found : {X : Type 0} (P : X → Type 0) (xs : List X) → HoldsOfOne P xs → (x : X) × (IsOneOf xs x × P x)
+one-found P [] h = absurd h
+one-found P (y ∷ ys) (inl h) = (y, (inl refl, h))
+one-found P (y ∷ ys) (inr h) = let more = one-found P ys h in (more.0, (inr more.1.0, more.1.1))

@@ -1,7 +1,8 @@
 -- Which versions are covered, and what it means that one is kept (Cloud Storage, "Object holds", "Bucket Lock" and "Soft delete").
-use Rattle.std.specs.Prelude.{◌≡◌, ◌≢◌, ◌⊎◌, ℕ, List, [], ◌∷◌, ◌++◌, map, Option, Some, None}
+use Rattle.std.specs.Prelude.{◌≡◌, ◌≢◌, ◌⊎◌, ℕ, true, List, [], ◌∷◌, ◌++◌, map, Option, Some, None}
 use Rattle.gcs_meaning.specs.declared.version.Row.{Row}
 use Rattle.gcs_meaning.specs.declared.policy.Cover.TheVariants.{Free}
+use Rattle.gcs_meaning.specs.Choosing.{is_readable}
 use Rattle.gcs_meaning.specs.Content.{bytes_in}
 use Rattle.gcs_meaning.specs.Slot.{State, Slot}
 use Rattle.gcs_meaning.specs.Policy.{cover_of}
@@ -38,3 +39,8 @@ pub record IsVersion (name : List ℕ) (generation : ℕ) (bytes : List ℕ) (ro
 -- such a version is in the bucket that is alive, or in a deleted one
 abbrev pub IsKept : Slot → List ℕ → ℕ → List ℕ → Type 0
 IsKept slot name generation bytes = HoldsOfOne (λ s. HoldsOfOne (IsVersion name generation bytes) s.rows) (buckets_of slot)
+
+-- such a version is live or noncurrent in the bucket that is alive
+abbrev pub IsReadableIn : Option State → List ℕ → ℕ → List ℕ → Type 0
+IsReadableIn None name generation bytes = ⊥
+IsReadableIn (Some s) name generation bytes = HoldsOfOne (λ row. IsVersion name generation bytes row × (is_readable row.kind ≡ true)) s.rows

@@ -1,49 +1,31 @@
 -- Laws over every slot, history and command.
-use Rattle.std.specs.Prelude.{◌≡◌, ◌≤◌, ◌<◌, ◌+◌, ◌^◌, ℕ, Bool, true, false, List, [], ◌∷◌, ◌++◌, length, Some}
+use Rattle.std.specs.Prelude.{◌≡◌, ◌≤◌, ◌+◌, ◌^◌, ℕ, Bool, true, false, List, length, Some}
 use Rattle.gcs_meaning.specs.declared.command.Answer.{Answer}
-use Rattle.gcs_meaning.specs.declared.command.Answer.TheVariants.{Bucket, Buckets, Empty, Object, Page as Paged, Refused}
+use Rattle.gcs_meaning.specs.declared.command.Answer.TheVariants.{Bucket, Buckets, Empty, Object, Page as Paged, Started, Kept, Complete, Cancelled, Refused}
 use Rattle.gcs_meaning.specs.declared.command.Command.{Command}
-use Rattle.gcs_meaning.specs.declared.command.Command.TheVariants.{BucketInsert, BucketList, BucketGet, BucketChange, BucketDelete, List as Listing, Get, Change, Delete, Put}
+use Rattle.gcs_meaning.specs.declared.command.Command.TheVariants.{BucketInsert, BucketList, BucketGet, BucketChange, BucketDelete, BucketLock, BucketRestore, List as Listing, Get, Change, Delete, Put, Compose, Restore, Start, Append, Finish, Cancel}
 use Rattle.gcs_meaning.specs.declared.command.Entry.{Entry}
+use Rattle.gcs_meaning.specs.declared.settings.Retention.{Retention}
+use Rattle.gcs_meaning.specs.declared.version.Kind.TheVariants.{Soft}
 use Rattle.gcs_meaning.specs.declared.version.Row.{Row}
+use Rattle.gcs_meaning.specs.Choosing.{is_readable}
 use Rattle.gcs_meaning.specs.Content.{bytes_in}
 use Rattle.gcs_meaning.specs.Moment.{effective_moment}
+use Rattle.gcs_meaning.specs.Policy.{retained_until}
 use Rattle.gcs_meaning.specs.Slot.{State, Slot, fresh_slot}
 use Rattle.gcs_meaning.specs.Fit.{IsFit}
-use Rattle.gcs_meaning.specs.Keeping.{IsOneOf, buckets_of, IsCovered, IsKept}
-use Rattle.gcs_meaning.specs.Step.{step, IsBuilt}
+use Rattle.gcs_meaning.specs.Keeping.{IsOneOf, buckets_of, IsCovered, IsKept, IsReadableIn}
+use Rattle.gcs_meaning.specs.Step.{step}
 use Rattle.gcs_meaning.specs.History.{AnswersAt, AreDistinct, answer_at, answer_of, replay, slot_of}
 use Rattle.gcs_meaning.specs.Bounds.{IsSmall, IsWithin}
+use Rattle.gcs_meaning.specs.Runs.{slot_after, AreBefore}
+use Rattle.gcs_meaning.specs.Making.{made_in, IsRising, NewAreAbove}
 
--- the command makes a version where it is done
-abbrev pub makes_version : Command → Bool
-makes_version (Put bucket name pre meta hashed components expect) = true
-makes_version _ = false
-
--- the generation of the version that an answer shows
-abbrev pub generations_of : Answer → List ℕ
-generations_of (Object row settings) = row.generation ∷ []
-generations_of _ = []
-
--- the generations that one command makes
-abbrev pub made_by : Bool → Answer → List ℕ
-made_by true answer = generations_of answer
-made_by false answer = []
-
--- the generations of the versions that these entries make on a slot, in order
-abbrev pub made_in : Slot → List Entry → List ℕ
-made_in slot [] = []
-made_in slot (e ∷ es) =
-    made_by (makes_version e.command) (step slot e.moment e.command).0 ++ made_in (step slot e.moment e.command).1 es
-
--- each is greater than the one before, and the first is greater than n
-abbrev pub IsRising : ℕ → List ℕ → Type 0
-IsRising n [] = Unit {0}
-IsRising n (x ∷ xs) = (n < x) × IsRising x xs
-
--- the generations of one bucket name rise strictly, over every list of entries
-abbrev pub GenerationsRise : Type 0
-GenerationsRise = (slot : Slot) (entries : List Entry) → IsRising slot.last_object (made_in slot entries)
+-- the generations of one bucket name rise strictly, over every list of entries, and what a step makes is above all that was made
+-- before: versions, and buckets
+pub record GenerationsRise : Type 0 where
+  pub rise : (slot : Slot) (entries : List Entry) → IsRising slot.last_object (made_in slot entries)
+  pub above : (slot : Slot) (moment : ℕ) (command : Command) → NewAreAbove slot (step slot moment command).1
 
 -- the fresh slot is fit, a slot that is fit stays so at every command, and so every slot of a history is fit
 pub record FitIsKept : Type 0 where
@@ -64,6 +46,19 @@ CoveredIsKept = (slot : Slot) (moment : ℕ) (command : Command) (s : State) (ro
     → IsOneOf (buckets_of slot) s → IsOneOf s.rows row → IsCovered s (effective_moment slot.last_moment moment) row
     → IsKept (step slot moment command).1 row.name row.generation (bytes_in row.hashed)
 
+-- a live or noncurrent version of a fit slot, in a bucket whose policy is locked, stays live or noncurrent with its bytes until its end
+abbrev pub LockedIsKept : Type 0
+LockedIsKept = (slot : Slot) (entries : List Entry) (s : State) (policy : Retention) (row : Row) → IsFit slot
+    → slot.alive ≡ Some s → s.settings.retention ≡ Some policy → policy.locked ≡ true
+    → IsOneOf s.rows row → is_readable row.kind ≡ true → AreBefore (retained_until row.retention_start policy.period) slot entries
+    → IsReadableIn (slot_after slot entries).alive row.name row.generation (bytes_in row.hashed)
+
+-- a soft-deleted version of a fit slot, in the bucket or in a deleted one, is kept with its bytes until its hard time
+abbrev pub SoftIsKept : Type 0
+SoftIsKept = (slot : Slot) (entries : List Entry) (s : State) (row : Row) (at hard : ℕ) → IsFit slot
+    → IsOneOf (buckets_of slot) s → IsOneOf s.rows row → row.kind ≡ Soft at hard → AreBefore hard slot entries
+    → IsKept (slot_after slot entries) row.name row.generation (bytes_in row.hashed)
+
 -- an answer that a command can give
 abbrev pub is_answer_to : Command → Answer → Bool
 is_answer_to command (Refused reason) = true
@@ -72,15 +67,27 @@ is_answer_to (BucketList shard prefix after most) (Buckets rows) = true
 is_answer_to (BucketGet bucket pre) (Bucket row) = true
 is_answer_to (BucketChange bucket pre change whole) (Bucket row) = true
 is_answer_to (BucketDelete bucket pre) Empty = true
+is_answer_to (BucketLock bucket pre) (Bucket row) = true
+is_answer_to (BucketRestore bucket generation) (Bucket row) = true
 is_answer_to (Listing bucket query) (Paged page) = true
 is_answer_to (Get bucket name generation soft pre) (Object row settings) = true
 is_answer_to (Change bucket name generation pre change whole) (Object row settings) = true
 is_answer_to (Delete bucket name generation pre) Empty = true
 is_answer_to (Put bucket name pre meta hashed components expect) (Object row settings) = true
+is_answer_to (Compose bucket name pre meta parts) (Object row settings) = true
+is_answer_to (Restore bucket name generation pre) (Object row settings) = true
+is_answer_to (Start bucket name pre meta expect total) (Started upload) = true
+is_answer_to (Append bucket upload offset total content) (Kept n) = true
+is_answer_to (Append bucket upload offset total content) (Complete whole) = true
+is_answer_to (Append bucket upload offset total content) (Object row settings) = true
+is_answer_to (Finish bucket upload hashed) (Kept n) = true
+is_answer_to (Finish bucket upload hashed) (Object row settings) = true
+is_answer_to (Cancel bucket upload) Cancelled = true
+is_answer_to (Cancel bucket upload) (Object row settings) = true
 is_answer_to command answer = false
 
 -- each command gets an answer of its kind, after every history; and the answer at an entry is found by the entry's numbers
 pub record AnswersFit : Type 0 where
-  pub kinds : (before : List Entry) (moment : ℕ) (command : Command) → IsBuilt command → is_answer_to command (answer_of before moment command) ≡ true
+  pub kinds : (before : List Entry) (moment : ℕ) (command : Command) → is_answer_to command (answer_of before moment command) ≡ true
   pub found : (history : List Entry) (caller number moment : ℕ) (command : Command) (a : Answer) → AreDistinct history
       → AnswersAt history caller number moment command a → answer_at history caller number ≡ Some a

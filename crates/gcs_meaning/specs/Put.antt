@@ -99,8 +99,17 @@ put_state state t row =
 abbrev pub with_version : Slot → State → ℕ → Row → Answer × Slot
 with_version slot s t row = (Object row s.settings, record slot { alive = Some (put_state s t row); last_object = row.generation })
 
+-- no digests are expected
+abbrev pub no_expect : Expect
+no_expect = record { crc = None; md5 = None }
+
+-- the put of a version into the bucket: the rule of every command that makes one
+abbrev pub put_on : State → Slot → ℕ → List ℕ → Pre → Meta → Digested → Option ℕ → Expect → Answer × Slot
+put_on s slot t name pre meta hashed components expect =
+    let row = new_row s.settings t (next_generation t slot.last_object) name meta hashed components in
+    unless (put_refusal s.settings t pre expect hashed (live_row name s.rows)) slot (with_version slot s t row)
+
 -- the put of a version, on a slot that is aged to t
 unfoldable pub put_step : Slot → ℕ → List ℕ → Pre → Meta → Digested → Option ℕ → Expect → Answer × Slot
-put_step slot t name pre meta hashed components expect = on_alive slot.alive slot (λ s.
-    let row = new_row s.settings t (next_generation t slot.last_object) name meta hashed components in
-    unless (put_refusal s.settings t pre expect hashed (live_row name s.rows)) slot (with_version slot s t row))
+put_step slot t name pre meta hashed components expect =
+    on_alive slot.alive slot (λ s. put_on s slot t name pre meta hashed components expect)

@@ -3,7 +3,7 @@ ghost use Rattle.std.specs.Prelude.{◌≡◌, ◌<◌, ◌≤◌, ℕ, length, 
 ghost use Rattle.std.specs.Arc.{arc_value};
 ghost use Rattle.gcs_chunks.specs.Content.{bytes_of_piece};
 ghost use Rattle.gcs_meaning.specs.Desk.{Histories, AreUnmoved, IsOf, Moves};
-ghost use Rattle.gcs_meaning.specs.Step.{IsBuilt};
+ghost use Rattle.gcs_meaning.specs.Step.{IsInRange};
 
 use crate::command::{Answer, Command};
 use crate::list::List;
@@ -36,7 +36,7 @@ pub trait Desk {
     fn call(&mut self, shard: u8, moment: u64, command: Command) -> Result<Answer, Unheld>
         requires shard { shard < 16 }
         requires belongs { IsOf shard command }
-        requires built { IsBuilt command }
+        requires in_range { IsInRange command }
         ensures caller { caller self.new ≡ caller self.old }
         ensures lists { Moves (caller self.old) (seen self.old) (mine self.old) (seen self.new) (mine self.new) shard moment command result };
 

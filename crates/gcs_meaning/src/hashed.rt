@@ -1,14 +1,14 @@
 //! A content with its digests.
-ghost use Rattle.std.specs.Prelude.{◌≡◌, true};
-ghost use Rattle.gcs_chunks.specs.Content.{bytes_of};
+ghost use Rattle.std.specs.Prelude.{◌≡◌, ◌<◌, ◌+◌, ◌^◌, length, true, false, OnErr, OnOk};
+ghost use Rattle.gcs_chunks.specs.Content.{bytes_of, no_content};
 ghost use Rattle.gcs_crc.specs.Crc.{crc};
 ghost use Rattle.gcs_crc.specs.Digests.{StandsAfter};
-ghost use Rattle.gcs_meaning.specs.Content.{md5_if};
+ghost use Rattle.gcs_meaning.specs.Content.{bytes_in, md5_if, with_whole};
 
 use crate::copying::Copied;
 use gcs_chunks::{Chunks, Content};
-use gcs_crc::Digests;
-use std::alloc::AllocError;
+use gcs_crc::{Crc, Digests, combine};
+use std::alloc::{AllocError, Global};
 use std::marker::Model;
 
 /// A content with its CRC32C and, unless it was composed, its MD5. Both are always those of its bytes.
@@ -54,6 +54,45 @@ impl Hashed {
             crc32c,
             md5: Some(digest),
         }
+    }
+
+    /// The content without bytes, and without an MD5: others are joined behind it.
+    pub fn none(alloc: Global) -> Hashed
+        ensures content { result.content ≡ no_content }
+        ensures md5 { result.with_md5 ≡ false }
+    {
+        Hashed {
+            content: Content::empty(alloc),
+            crc32c: Crc::new().value(),
+            md5: None,
+        }
+    }
+
+    /// The same digests over another content, which has the same bytes.
+    pub fn over(&self, content: Content) -> Hashed
+        requires { bytes_of content ≡ bytes_in self.now }
+        ensures content { result.content ≡ content }
+        ensures md5 { result.with_md5 ≡ self.now.with_md5 }
+    {
+        Hashed {
+            content,
+            crc32c: self.crc32c,
+            md5: self.md5,
+        }
+    }
+
+    /// Adds the other's bytes, of which none is read, and the MD5 goes. `Err`: no memory, and nothing is added.
+    pub fn join(&mut self, other: &Hashed) -> Result<(), AllocError>
+        requires { length (bytes_in self.old) + length (bytes_in other.now) < 2 ^ 63 }
+        ensures content { OnOk result (self.new.content ≡ with_whole self.old.content other.now.content) }
+        ensures md5 { OnOk result (self.new.with_md5 ≡ false) }
+        ensures err { OnErr result (self.new ≡ self.old) }
+    {
+        let crc32c = combine(self.crc32c, other.crc32c, other.content.len());
+        self.content.join(&other.content, 0)?;
+        self.crc32c = crc32c;
+        self.md5 = None;
+        Ok(())
     }
 
     pub fn content(&self) -> &Content

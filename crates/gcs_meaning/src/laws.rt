@@ -1,7 +1,8 @@
 //! Laws over every slot, history and command. Each is the contract of a function that does nothing.
-ghost use Rattle.gcs_meaning.specs.Laws.{AnswersFit, CoveredIsKept, FitIsKept, GenerationsRise, SmallIsKept};
+ghost use Rattle.gcs_meaning.specs.Laws.{AnswersFit, CoveredIsKept, FitIsKept, GenerationsRise, LockedIsKept, SmallIsKept, SoftIsKept};
 
-/// The versions that are made under a bucket's name have greater and greater generations, also over its deletion.
+/// The versions that are made under a bucket's name have greater and greater generations, also over its deletion and restore; and
+/// each version and each bucket that a step leaves was there before it, or has a greater generation than all that were made before.
 pub fn law_generations()
     ensures { GenerationsRise }
 {}
@@ -16,6 +17,22 @@ pub fn law_generations()
 /// Source: Cloud Storage, "Object holds", "Bucket Lock" and "Soft delete".
 pub fn law_covered()
     ensures { CoveredIsKept }
+{}
+
+/// A live or noncurrent version in a bucket whose retention policy is locked stays live or noncurrent with its bytes, whatever
+/// commands come, as long as their moments are before the end of its retention (`retained_until`), as it stood at first.
+///
+/// Source: Cloud Storage, "Bucket Lock".
+pub fn law_locked()
+    ensures { LockedIsKept }
+{}
+
+/// A soft-deleted version, in the bucket or in a deleted one, is kept with its bytes, whatever commands come, as long as their
+/// moments are before its hard time: also where its bucket is deleted or restored, or the version itself.
+///
+/// Source: Cloud Storage, "Soft delete".
+pub fn law_soft()
+    ensures { SoftIsKept }
 {}
 
 /// A slot that is fit stays fit, and every slot of a history is fit: its counters are not behind what it has, its versions rise by

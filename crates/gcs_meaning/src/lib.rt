@@ -30,7 +30,9 @@ pub use command::{Answer, Command, Entry};
 pub use copying::Copied;
 pub use desk::{Desk, Unheld};
 pub use hashed::Hashed;
-pub use laws::{law_answers, law_covered, law_fit, law_generations, law_small};
+pub use laws::{
+    law_answers, law_covered, law_fit, law_generations, law_locked, law_small, law_soft,
+};
 pub use limits::{
     DEFAULT_CLASS, DEFAULT_CONTENT_TYPE, DEFAULT_SOFT_SECONDS, LARGEST_CUSTOM, LARGEST_OBJECT,
     MICROSECONDS_PER_SECOND, SHARDS,

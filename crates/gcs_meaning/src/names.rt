@@ -27,6 +27,13 @@ impl Name {
         Name { text }
     }
 
+    /// The text of the name, which moves.
+    pub fn into_text(self) -> Text
+        ensures { result ≡ self }
+    {
+        self.text
+    }
+
     pub fn as_bytes(&self) -> &[u8]
         ensures { result.now ≡ self.now }
     {
@@ -67,6 +74,13 @@ impl BucketName {
         ensures { result ≡ text }
     {
         BucketName { text }
+    }
+
+    /// The text of the name, which moves.
+    pub fn into_text(self) -> Text
+        ensures { result ≡ self }
+    {
+        self.text
     }
 
     pub fn as_bytes(&self) -> &[u8]

@@ -96,3 +96,13 @@ pub struct Part {
     pub generation: Option<u64>,
     pub generation_is: Option<u64>,
 }
+
+impl Copied for Part {
+    fn copy(&self) -> Result<Part, AllocError> {
+        Ok(Part {
+            name: self.name.copy()?,
+            generation: self.generation,
+            generation_is: self.generation_is,
+        })
+    }
+}
