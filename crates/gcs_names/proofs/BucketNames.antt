@@ -6,18 +6,18 @@ use Rattle.std.proofs.lemmas.List.Sums.{AllPass-from_list_all, list_all-from_All
 use Rattle.std.proofs.lemmas.Slice.Eq.{bytes_eq-Decides}
 use Rattle.gcs_names.specs.Name.{is_bucket_byte, is_bucket_name, IsBucketName}
 
-both : (a b : Bool) → (a && b) ≡ true → (a ≡ true) × (b ≡ true)
+pub both : (a b : Bool) → (a && b) ≡ true → (a ≡ true) × (b ≡ true)
 both true b h = (refl, h)
 both false b h = absurd (false≢true h)
 
-every : (a b : Bool) → a ≡ true → b ≡ true → (a && b) ≡ true
+pub every : (a b : Bool) → a ≡ true → b ≡ true → (a && b) ≡ true
 every a b p q = ap₂ (λ s t. s && t) p q
 
-not-true : (b : Bool) → not b ≡ true → b ≡ true → ⊥
+pub not-true : (b : Bool) → not b ≡ true → b ≡ true → ⊥
 not-true true h e = false≢true h
 not-true false h e = false≢true e
 
-not-yes : (b : Bool) → (b ≡ true → ⊥) → not b ≡ true
+pub not-yes : (b : Bool) → (b ≡ true → ⊥) → not b ≡ true
 not-yes true h = absurd (h refl)
 not-yes false h = refl
 
@@ -47,7 +47,7 @@ is_bucket_name-iff name =
 pub passes_where_named : (name : List ℕ) → IsBucketName name → is_bucket_name name ≡ true
 passes_where_named name is = (is_bucket_name-iff name).1 is
 
-is_false : (b : Bool) → (b ≡ true → ⊥) → b ≡ false
+pub is_false : (b : Bool) → (b ≡ true → ⊥) → b ≡ false
 is_false true h = absurd (h refl)
 is_false false h = refl
 

@@ -1,1 +1,2 @@
 pub mod BucketNames
+pub mod ObjectNames

@@ -4,5 +4,5 @@
 mod names;
 mod segments;
 
-pub use names::{BadName, bucket_name, law_bucket_name, object_name};
+pub use names::{BadName, bucket_name, law_bucket_name, law_object_name, object_name};
 pub use segments::segment;

@@ -1,6 +1,7 @@
 //! Which bytes name a bucket, and which an object.
 ghost use Rattle.std.specs.Prelude.{◌≡◌, ◌↔◌, ◌⊎◌, take, codes, IfOk, Err, IsTrue};
 ghost use Rattle.gcs_names.specs.Name.{is_letter_or_digit, is_bucket_byte, IsBucketName, IsObjectName, TestIsTheRule};
+ghost use Rattle.gcs_names.specs.ObjectTest.{ObjectTestIsTheRule};
 
 use gcs_meaning::{BucketName, Name, Text};
 use std::alloc::{AllocError, Global};
@@ -27,6 +28,11 @@ impl From<AllocError> for BadName {
 /// The test of a bucket's name, of which definitions make use, is the rule for such names.
 pub fn law_bucket_name()
     ensures { TestIsTheRule }
+{}
+
+/// The same of the test of an object's name.
+pub fn law_object_name()
+    ensures { ObjectTestIsTheRule }
 {}
 
 /// The bucket's name with these bytes: 3 to 63 lower-case letters, digits, `-` and `_`, with a letter or a
