@@ -3,8 +3,7 @@ ghost use Rattle.std.specs.Prelude.{◌≡◌, ◌<◌, ◌^◌};
 ghost use Rattle.std.specs.Option.{ForSome};
 ghost use Rattle.gcs_meaning.specs.Policy.{AreInLimits, IsPeriod, cover_of, kept_cover, retention_cover};
 
-use crate::MICROSECONDS_PER_SECOND;
-use gcs_meaning::{Cover, Kind, Retention, RowFacts, Settings};
+use gcs_meaning::{Cover, Kind, MICROSECONDS_PER_SECOND, Retention, RowFacts, Settings};
 
 /// What covers a version at `moment` (microseconds since 1970): the first of its temporary hold,
 /// its event-based hold and its retention, or its soft deletion. The version may be deleted or

@@ -14,5 +14,3 @@ pub use cover::covered;
 pub use lock::may_change_policy;
 pub use preconditions::{bucket_holds, holds};
 pub use retirement::retire;
-
-const MICROSECONDS_PER_SECOND: u64 = 1_000_000;

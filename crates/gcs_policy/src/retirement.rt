@@ -2,8 +2,7 @@
 ghost use Rattle.std.specs.Prelude.{◌≡◌, ◌<◌, ◌^◌};
 ghost use Rattle.gcs_meaning.specs.Policy.{AreInLimits, retired_to};
 
-use crate::MICROSECONDS_PER_SECOND;
-use gcs_meaning::{Retired, Settings};
+use gcs_meaning::{MICROSECONDS_PER_SECOND, Retired, Settings};
 
 /// What becomes of a version that is replaced or deleted at `moment` (microseconds since 1970): in
 /// a versioned bucket it becomes noncurrent, unless it is deleted with its generation named, as
