@@ -9,8 +9,10 @@ use Rattle.gcs_meaning.specs.Put.{with_row}
 use Rattle.gcs_meaning.specs.Retiring.{change_first}
 use Rattle.gcs_meaning.proofs.Listed.{all-weaker}
 use Rattle.gcs_versions.specs.Rows.{is_version, map_at, IsPlace}
-use Rattle.gcs_versions.proofs.Orders.{apart, before_other, not_back, place_version, tied}
-use Rattle.gcs_versions.proofs.Finding.{first_if, none_found, version_at}
+use Rattle.gcs_meaning.proofs.Chosen.{none_found}
+use Rattle.gcs_meaning.proofs.Orders.{apart, not_back, tied}
+use Rattle.gcs_versions.proofs.Orders.{before_other, place_version}
+use Rattle.gcs_versions.proofs.Finding.{first_if, version_at}
 
 -- ---- a new row
 placed_from : (row : Row) (rows : List Row) (i : ℕ) → i ≤ length rows

@@ -14,11 +14,12 @@ use Rattle.gcs_meaning.specs.Aging.{aged_rows, kind_stays}
 use Rattle.gcs_meaning.specs.Choosing.{chosen_row, is_chosen, is_live, is_live_of, is_readable, is_soft_chosen, live_row}
 use Rattle.gcs_meaning.specs.Order.{comes_before, place_of, AreSingle, Rise}
 use Rattle.gcs_meaning.specs.Retiring.{change_first, retired_row}
-use Rattle.gcs_meaning.proofs.Chosen.{all-find, asked_row-aged}
+use Rattle.gcs_meaning.proofs.Chosen.{all-find, asked_row-aged, finds_none, none_found}
 use Rattle.gcs_meaning.proofs.Listed.{all-weaker}
 use Rattle.gcs_versions.specs.Rows.{is_version}
-use Rattle.gcs_versions.proofs.Orders.{apart, behind_other, before_other, same_text, version_place}
-use Rattle.gcs_versions.proofs.Finding.{finds_none, first_if, none_found}
+use Rattle.gcs_meaning.proofs.Orders.{apart}
+use Rattle.gcs_versions.proofs.Orders.{behind_other, before_other, version_place}
+use Rattle.gcs_versions.proofs.Finding.{first_if}
 
 -- what is found passes
 found_here : {X : Type 0} (p : X → Bool) (x y : X) (found : Option X) (b : Bool) → p y ≡ b → (if b then Some y else found) ≡ Some x → (found ≡ Some x → p x ≡ true) → p x ≡ true
@@ -194,20 +195,3 @@ fresh_absent name generation rows above =
     by row true e below =
         let parts = and_parts (row.generation == generation) (bytes_eq name row.name) e in
         absurd (omega (arith, eqb-true row.generation generation parts.0, below))
-
--- once the live version is retired none is live
-pub live_retired : (to : Retired) (t : ℕ) (name : List ℕ) (rows : List Row) → AreSingle rows → live_row name (change_first (is_chosen name None) (retired_row to t) rows) ≡ None
-live_retired to t name [] single = refl
-live_retired to t name (x ∷ xs) single = by (is_live_of name x) refl (live_retired to t name xs single.1)
-  where
-    gone : (rest : Option Row) → (to : Retired) → rest ≡ None → live_row name xs ≡ rest → live_row name (retired_row to t x ++ xs) ≡ None
-    gone rest ToNoncurrent none is = is ∙ none
-    gone rest (ToSoft hard) none is = is ∙ none
-    gone rest Out none is = is ∙ none
-
-    by : (b : Bool) → is_live_of name x ≡ b → live_row name (change_first (is_chosen name None) (retired_row to t) xs) ≡ None
-        → live_row name (if b then retired_row to t x ++ xs else x ∷ change_first (is_chosen name None) (retired_row to t) xs) ≡ None
-    by true e rest =
-        let parts = and_parts (is_live x.kind) (bytes_eq name x.name) e in
-        gone (live_row name xs) to (subst (λ n. live_row n xs ≡ None) (sym (same_text name x.name parts.1)) (single.0 parts.0)) refl
-    by false e rest = ap (λ b. if b then Some x else live_row name (change_first (is_chosen name None) (retired_row to t) xs)) e ∙ rest

@@ -12,22 +12,9 @@ use Rattle.gcs_meaning.specs.Choosing.{is_live, is_live_of, live_row}
 use Rattle.gcs_meaning.specs.Order.{comes_before, is_at_least, is_shown, place_of, shown_rows, unit_at, Rise}
 use Rattle.gcs_meaning.proofs.Listed.{all-weaker}
 use Rattle.gcs_versions.specs.Rows.{ends, is_version, IsPlace}
-use Rattle.gcs_versions.proofs.Orders.{before_before, before_other, behind_other, from_before, name_not_before, name_not_behind}
-
--- what passes nowhere isn't found, and the other way round
-pub finds_none : {X : Type 0} (p : X → Bool) (xs : List X) → AllByRecursion (λ x. p x ≡ false) xs → find p xs ≡ None
-finds_none p [] all = refl
-finds_none p (x ∷ xs) all = ap (λ t. if t then Some x else find p xs) all.0 ∙ finds_none p xs all.1
-
-none_first : {X : Type 0} (p : X → Bool) (x : X) (xs : List X) (b : Bool) → p x ≡ b → (if b then Some x else find p xs) ≡ None → (p x ≡ false) × (find p xs ≡ None)
-none_first p x xs true e none = absurd (cc)
-none_first p x xs false e none = (e, none)
-
-pub none_found : {X : Type 0} (p : X → Bool) (xs : List X) → find p xs ≡ None → AllByRecursion (λ x. p x ≡ false) xs
-none_found p [] none = tt
-none_found p (x ∷ xs) none =
-    let parts = none_first p x xs (p x) refl none in
-    (parts.0, none_found p xs parts.1)
+use Rattle.gcs_meaning.proofs.Chosen.{finds_none}
+use Rattle.gcs_meaning.proofs.Orders.{before_before, from_before}
+use Rattle.gcs_versions.proofs.Orders.{before_other, behind_other, name_not_before, name_not_behind}
 
 -- ---- the place that a binary search finds
 at_of : (P : Row → Type 0) (rows : List Row) (j : ℕ) (d : Row) → j < length rows → AllByRecursion P rows → P (slice_index_or rows j d)

@@ -1,6 +1,7 @@
 //! The versions of a bucket's objects, by name and generation.
 #![tactic(auto)]
 
+mod choosing;
 mod kinds;
 mod places;
 mod rows;
