@@ -1,0 +1,5 @@
+pub mod Accepted
+pub mod Ages
+pub mod Called
+pub mod Copies
+pub mod Prefixes
