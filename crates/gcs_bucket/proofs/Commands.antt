@@ -1,181 +1,167 @@
--- What the commands give, along the steps of the calls on a slot.
-use Rattle.std.proofs.Common.{◌≡◌, ℕ, Bool, List, Option, Some, None, Result, Ok, Err, refl, ap, sym, ◌∙◌}
-use Rattle.std.specs.Prelude.{is_some}
+-- What the commands come to on a slot that is aged, by what is decided of them before.
+use Rattle.std.proofs.Common.{◌≡◌, ℕ, Bool, List, Option, Some, None, Result, Ok, Err, refl, ap, sym, subst, ◌∙◌}
+use Rattle.std.specs.Prelude.{is_some, IfOk}
 use Rattle.gcs_meaning.specs.declared.changes.MetaChange.{MetaChange}
 use Rattle.gcs_meaning.specs.declared.changes.SettingsChange.{SettingsChange}
 use Rattle.gcs_meaning.specs.declared.settings.Pre.{Pre}
 use Rattle.gcs_meaning.specs.declared.settings.Meta.{Meta}
 use Rattle.gcs_meaning.specs.declared.settings.Settings.{Settings}
-use Rattle.gcs_meaning.specs.declared.version.BucketRow.{BucketRow}
 use Rattle.gcs_meaning.specs.declared.version.Row.{Row}
 use Rattle.gcs_meaning.specs.declared.version.Expect.{Expect}
 use Rattle.gcs_meaning.specs.declared.reason.Reason.{Reason}
 use Rattle.gcs_meaning.specs.declared.reason.Reason.TheVariants.{NoBucket, NoObject}
 use Rattle.gcs_meaning.specs.declared.command.Answer.{Answer}
-use Rattle.gcs_meaning.specs.declared.command.Answer.TheVariants.{Refused, Bucket, Empty, Object}
+use Rattle.gcs_meaning.specs.declared.command.Answer.TheVariants.{Refused}
 use Rattle.gcs_meaning.specs.Content.{Digested}
 use Rattle.gcs_meaning.specs.Moment.{next_generation}
-use Rattle.gcs_meaning.specs.Slot.{State, Grave, Slot, bucket_row, with_alive}
-use Rattle.gcs_meaning.specs.Aging.{aged, aged_state, aged_graves}
+use Rattle.gcs_meaning.specs.Order.{Rise}
+use Rattle.gcs_meaning.specs.Slot.{State, Slot}
+use Rattle.gcs_meaning.specs.Aging.{aged, aged_state}
 use Rattle.gcs_meaning.specs.BucketChange.{bucket_change_refusal, bucket_change_state, bucket_change_step, changed_settings}
+use Rattle.gcs_meaning.specs.BucketLock.{bucket_lock_refusal, bucket_lock_step, locked_settings}
 use Rattle.gcs_meaning.specs.Choosing.{chosen_row, live_row}
-use Rattle.gcs_meaning.specs.ObjectDeletion.{delete_refusal, delete_state, delete_step}
-use Rattle.gcs_meaning.specs.ObjectChange.{change_refusal, change_step, changed_meta, changed_row}
-use Rattle.gcs_meaning.specs.Put.{put_refusal, put_state, put_step, new_row}
+use Rattle.gcs_meaning.specs.ObjectDeletion.{delete_refusal, delete_step}
+use Rattle.gcs_meaning.specs.ObjectChange.{change_refusal, change_state, change_step, changed_meta, changed_row}
+use Rattle.gcs_meaning.specs.Put.{put_refusal, put_step, new_row}
 use Rattle.gcs_meaning.proofs.Chosen.{chosen_row-aged}
+use Rattle.gcs_bucket.specs.declared.bucket_change.NewSettings.{NewSettings}
 use Rattle.gcs_bucket.specs.declared.object_change.Changed.{Changed}
-use Rattle.gcs_bucket.specs.ObjectChange.{decided, with_changed, IsChangeOf, IsDecided, MakesChange}
+use Rattle.gcs_bucket.specs.declared.put.Prepared.{Prepared}
+use Rattle.gcs_bucket.specs.BucketChange.{decided_settings, MakesBucket}
+use Rattle.gcs_bucket.specs.ObjectChange.{decided_change, with_changed, MakesChange}
+use Rattle.gcs_bucket.specs.ObjectDeletion.{decided_deletion}
+use Rattle.gcs_bucket.specs.Put.{decided_put, generation_found, tested_put}
 use Rattle.gcs_bucket.proofs.Removed.{replaced}
-use Rattle.gcs_bucket.specs.ObjectDeletion.{IsDeleted}
 
-abbrev pub slot_with : Option State → List Grave → ℕ → ℕ → ℕ → ℕ → Slot
-slot_with alive graves moment object bucket upload = record { alive = alive; graves = graves; last_moment = moment; last_object = object; last_bucket = bucket; next_upload = upload }
+-- what was decided before ageing is what it comes to after it
+pub decided_made : {M : Type 0} (outcome : Result M Reason → Slot → Answer × Slot) (does : Answer × Slot) (decision : Result M Reason) (made : M) (aged-one now after : Slot) (answer : Answer)
+    → does ≡ outcome decision aged-one → decision ≡ Ok made → now ≡ aged-one → (answer, after) ≡ outcome (Ok made) now → does ≡ (answer, after)
+decided_made outcome does decision made aged-one now after answer decided is now-is done =
+    decided ∙ ap (λ d. outcome d aged-one) is ∙ ap (outcome (Ok made)) (sym now-is) ∙ sym done
 
--- the bucket isn't alive
-pub bucket_change_dead : (slot : Slot) (t : ℕ) (name : List ℕ) (pre : Pre) (change : SettingsChange) (whole : Bool)
+pub decided_refused : {M : Type 0} (outcome : Result M Reason → Slot → Answer × Slot) (does : Answer × Slot) (decision : Result M Reason) (reason : Reason) (aged-one now : Slot)
+    → does ≡ outcome decision aged-one → decision ≡ Err reason → now ≡ aged-one → outcome (Err reason) aged-one ≡ (Refused reason, aged-one) → does ≡ (Refused reason, now)
+decided_refused outcome does decision reason aged-one now decided is now-is refuses =
+    decided ∙ ap (λ d. outcome d aged-one) is ∙ refuses ∙ ap (λ slot. (Refused reason, slot)) (sym now-is)
+
+-- a fact of what was made, of the slot that it is made on
+pub fact_of_made : {M : Type 0} (P : M → Slot → Type 0) (decision : Result M Reason) (made : M) (aged-one now : Slot)
+    → IfOk decision (λ m. P m aged-one) → decision ≡ Ok made → now ≡ aged-one → P made now
+fact_of_made P decision made aged-one now held is now-is =
+    subst (P made) (sym now-is) (subst (λ d. IfOk d (λ m. P m aged-one)) is held)
+
+-- ---- the change of a bucket's settings
+pub settings_dead : (slot : Slot) (t : ℕ) (name : List ℕ) (pre : Pre) (change : SettingsChange) (whole : Bool)
     → slot.alive ≡ None → bucket_change_step (aged slot t) t name pre change whole ≡ (Refused NoBucket, aged slot t)
 unfolding bucket_change_step
-bucket_change_dead slot t name pre change whole dead = rw dead refl
+settings_dead slot t name pre change whole dead = rw dead refl
 
+pub settings_tested : (slot : Slot) (t : ℕ) (name : List ℕ) (pre : Pre) (change : SettingsChange) (whole : Bool) (s : State) (reason : Reason)
+    → slot.alive ≡ Some s → Some reason ≡ bucket_change_refusal pre whole change s
+    → bucket_change_step (aged slot t) t name pre change whole ≡ (Refused reason, aged slot t)
+unfolding bucket_change_step bucket_change_refusal aged_state
+settings_tested slot t name pre change whole s reason lives refused = rw (lives, ← refused) refl
+
+pub settings_made : (slot : Slot) (t : ℕ) (name : List ℕ) (pre : Pre) (change : SettingsChange) (whole : Bool) (s : State) (settings : Settings) (made : NewSettings)
+    → slot.alive ≡ Some s → None ≡ bucket_change_refusal pre whole change s → settings ≡ changed_settings t whole change s.settings
+    → MakesBucket made name (bucket_change_state s t settings)
+    → bucket_change_step (aged slot t) t name pre change whole ≡ decided_settings (Ok made) t (aged slot t)
+unfolding bucket_change_step bucket_change_refusal aged_state
+settings_made slot t name pre change whole s settings made lives passed settings-is makes =
+    rw (lives, ← passed, makes.shown_is, makes.settings_is, settings-is) refl
+
+-- ---- the lock of a bucket's policy
+pub lock_dead : (slot : Slot) (t : ℕ) (name : List ℕ) (pre : Pre) → slot.alive ≡ None → bucket_lock_step (aged slot t) t name pre ≡ (Refused NoBucket, aged slot t)
+unfolding bucket_lock_step
+lock_dead slot t name pre dead = rw dead refl
+
+pub lock_tested : (slot : Slot) (t : ℕ) (name : List ℕ) (pre : Pre) (s : State) (reason : Reason) → slot.alive ≡ Some s → Some reason ≡ bucket_lock_refusal pre s
+    → bucket_lock_step (aged slot t) t name pre ≡ (Refused reason, aged slot t)
+unfolding bucket_lock_step bucket_lock_refusal aged_state
+lock_tested slot t name pre s reason lives refused = rw (lives, ← refused) refl
+
+pub lock_made : (slot : Slot) (t : ℕ) (name : List ℕ) (pre : Pre) (s : State) (settings : Settings) (made : NewSettings)
+    → slot.alive ≡ Some s → None ≡ bucket_lock_refusal pre s → settings ≡ locked_settings s.settings → MakesBucket made name (bucket_change_state s t settings)
+    → bucket_lock_step (aged slot t) t name pre ≡ decided_settings (Ok made) t (aged slot t)
+unfolding bucket_lock_step bucket_lock_refusal aged_state
+lock_made slot t name pre s settings made lives passed settings-is makes = rw (lives, ← passed, makes.shown_is, makes.settings_is, settings-is) refl
+
+-- ---- the change of a version
 pub change_dead : (slot : Slot) (t : ℕ) (name : List ℕ) (generation : Option ℕ) (pre : Pre) (change : MetaChange) (whole : Bool)
     → slot.alive ≡ None → change_step (aged slot t) t name generation pre change whole ≡ (Refused NoBucket, aged slot t)
 unfolding change_step
 change_dead slot t name generation pre change whole dead = rw dead refl
 
+pub change_missing : (slot : Slot) (t : ℕ) (name : List ℕ) (generation : Option ℕ) (pre : Pre) (change : MetaChange) (whole : Bool) (s : State)
+    → slot.alive ≡ Some s → None ≡ chosen_row name generation s.rows
+    → change_step (aged slot t) t name generation pre change whole ≡ (Refused NoObject, aged slot t)
+unfolding change_step aged_state
+change_missing slot t name generation pre change whole s lives none = rw (lives, chosen_row-aged t name generation s.rows, ← none) refl
+
+pub change_tested : (slot : Slot) (t : ℕ) (name : List ℕ) (generation : Option ℕ) (pre : Pre) (change : MetaChange) (whole : Bool) (s : State) (row : Row) (meta : Meta) (reason : Reason)
+    → slot.alive ≡ Some s → Some row ≡ chosen_row name generation s.rows → meta ≡ changed_meta whole change row.meta → Some reason ≡ change_refusal pre row meta
+    → change_step (aged slot t) t name generation pre change whole ≡ (Refused reason, aged slot t)
+unfolding change_step aged_state
+change_tested slot t name generation pre change whole s row meta reason lives found meta-is refused =
+    rw (lives, chosen_row-aged t name generation s.rows, ← found, ← meta-is, ← refused) refl
+
+pub change_made : (slot : Slot) (t : ℕ) (name : List ℕ) (generation : Option ℕ) (pre : Pre) (change : MetaChange) (whole : Bool) (s : State) (row : Row) (meta : Meta) (made : Changed)
+    → slot.alive ≡ Some s → Some row ≡ chosen_row name generation s.rows → meta ≡ changed_meta whole change row.meta → None ≡ change_refusal pre row meta
+    → Rise s.rows → MakesChange made s.settings (changed_row t meta row)
+    → change_step (aged slot t) t name generation pre change whole ≡ decided_change (Ok made) name (aged slot t)
+unfolding change_step aged_state
+change_made slot t name generation pre change whole s row meta made lives found meta-is passed rise makes =
+    let same : with_changed (aged_state t s) name (changed_row t meta row) ≡ change_state (aged_state t s) name generation (changed_row t meta row)
+    = replaced t name generation s row (changed_row t meta row) rise (sym found) refl in
+    rw (lives, chosen_row-aged t name generation s.rows, ← found, ← meta-is, ← passed, makes.shown_is, makes.settings_is, same) refl
+
+-- ---- the deletion of a version
 pub delete_dead : (slot : Slot) (t : ℕ) (name : List ℕ) (generation : Option ℕ) (pre : Pre)
     → slot.alive ≡ None → delete_step (aged slot t) t name generation pre ≡ (Refused NoBucket, aged slot t)
 unfolding delete_step
 delete_dead slot t name generation pre dead = rw dead refl
+
+pub delete_missing : (slot : Slot) (t : ℕ) (name : List ℕ) (generation : Option ℕ) (pre : Pre) (s : State)
+    → slot.alive ≡ Some s → None ≡ chosen_row name generation s.rows → delete_step (aged slot t) t name generation pre ≡ (Refused NoObject, aged slot t)
+unfolding delete_step aged_state
+delete_missing slot t name generation pre s lives none = rw (lives, chosen_row-aged t name generation s.rows, ← none) refl
+
+pub delete_tested : (slot : Slot) (t : ℕ) (name : List ℕ) (generation : Option ℕ) (pre : Pre) (s : State) (row : Row) (reason : Reason)
+    → slot.alive ≡ Some s → Some row ≡ chosen_row name generation s.rows → Some reason ≡ delete_refusal s.settings t (is_some generation) pre row
+    → delete_step (aged slot t) t name generation pre ≡ (Refused reason, aged slot t)
+unfolding delete_step aged_state
+delete_tested slot t name generation pre s row reason lives found refused = rw (lives, chosen_row-aged t name generation s.rows, ← found, ← refused) refl
+
+pub delete_made : (slot : Slot) (t : ℕ) (name : List ℕ) (generation : Option ℕ) (pre : Pre) (s : State) (row : Row)
+    → slot.alive ≡ Some s → Some row ≡ chosen_row name generation s.rows → None ≡ delete_refusal s.settings t (is_some generation) pre row
+    → delete_step (aged slot t) t name generation pre ≡ decided_deletion (Ok row.generation) t name generation (aged slot t)
+unfolding delete_step aged_state
+delete_made slot t name generation pre s row lives found passed = rw (lives, chosen_row-aged t name generation s.rows, ← found, ← passed) refl
+
+-- ---- the put of a version
+pub tested_err : (refusal : Option Reason) (live : Option Row) (reason : Reason) → Err reason ≡ tested_put refusal live → Some reason ≡ refusal
+tested_err (Some other) live reason is = cc
+tested_err None live reason is = cc
+
+pub tested_ok : (refusal : Option Reason) (live : Option Row) (generation : Option ℕ) → Ok generation ≡ tested_put refusal live → (None ≡ refusal) × (generation ≡ generation_found live)
+tested_ok (Some reason) live generation is = absurd (cc)
+tested_ok None live generation is = (refl, cc)
 
 pub put_dead : (slot : Slot) (t : ℕ) (name : List ℕ) (pre : Pre) (meta : Meta) (hashed : Digested) (components : Option ℕ) (expect : Expect)
     → slot.alive ≡ None → put_step (aged slot t) t name pre meta hashed components expect ≡ (Refused NoBucket, aged slot t)
 unfolding put_step
 put_dead slot t name pre meta hashed components expect dead = rw dead refl
 
--- the deletion of a version, on a bucket that is alive: there is none, a test fails, or it is done
-pub delete_missing : (before : State) (t : ℕ) (name : List ℕ) (generation : Option ℕ) (pre : Pre) → chosen_row name generation before.rows ≡ None
-    → IsDeleted before before t name generation pre (Refused NoObject)
-unfolding delete_step
-delete_missing before t name generation pre none slot lives = rw (lives, none) refl
+pub put_tested : (slot : Slot) (t : ℕ) (name : List ℕ) (pre : Pre) (meta : Meta) (hashed : Digested) (components : Option ℕ) (expect : Expect) (s : State) (reason : Reason)
+    → slot.alive ≡ Some s → Some reason ≡ put_refusal s.settings t pre expect hashed (live_row name s.rows)
+    → put_step (aged slot t) t name pre meta hashed components expect ≡ (Refused reason, aged slot t)
+unfolding put_step aged_state
+put_tested slot t name pre meta hashed components expect s reason lives refused = rw (lives, chosen_row-aged t name None s.rows, ← refused) refl
 
-pub delete_tested : (before : State) (t : ℕ) (name : List ℕ) (generation : Option ℕ) (pre : Pre) (row : Row) (reason : Reason) → chosen_row name generation before.rows ≡ Some row
-    → delete_refusal before.settings t (is_some generation) pre row ≡ Some reason → IsDeleted before before t name generation pre (Refused reason)
-unfolding delete_step
-delete_tested before t name generation pre row reason found refused slot lives = rw (lives, found, refused) refl
-
-pub delete_made : (before after : State) (t : ℕ) (name : List ℕ) (generation : Option ℕ) (pre : Pre) (row : Row) → chosen_row name generation before.rows ≡ Some row
-    → delete_refusal before.settings t (is_some generation) pre row ≡ None → after ≡ delete_state before t name generation → IsDeleted before after t name generation pre Empty
-unfolding delete_step
-delete_made before after t name generation pre row found passed after-is slot lives =
-    rw (lives, found, passed) (ap (λ (s : State). (Empty, with_alive s slot)) (sym after-is))
-
--- the change of a version, on a bucket that is alive: there is none, a test fails, or it is decided on
-pub change_missing : (from : State) (t : ℕ) (name : List ℕ) (generation : Option ℕ) (pre : Pre) (change : MetaChange) (whole : Bool) → chosen_row name generation from.rows ≡ None
-    → IsDecided (Err NoObject) from t name generation pre change whole
-unfolding change_step
-change_missing from t name generation pre change whole none slot s lives settings same = rw (lives, same, none) refl
-
-pub change_tested : (from : State) (t : ℕ) (name : List ℕ) (generation : Option ℕ) (pre : Pre) (change : MetaChange) (whole : Bool) (row : Row) (meta : Meta) (reason : Reason)
-    → chosen_row name generation from.rows ≡ Some row → meta ≡ changed_meta whole change row.meta → change_refusal pre row meta ≡ Some reason
-    → IsDecided (Err reason) from t name generation pre change whole
-unfolding change_step
-change_tested from t name generation pre change whole row meta reason found meta-is refused slot s lives settings same =
-    rw (lives, same, found, ← meta-is, refused) refl
-
-pub change_allowed : (from : State) (t : ℕ) (name : List ℕ) (generation : Option ℕ) (pre : Pre) (change : MetaChange) (whole : Bool) (row : Row) (meta : Meta) (made : Changed)
-    → chosen_row name generation from.rows ≡ Some row → meta ≡ changed_meta whole change row.meta → change_refusal pre row meta ≡ None
-    → MakesChange made from.settings (changed_row t meta row) → IsDecided (Ok made) from t name generation pre change whole
-unfolding change_step
-change_allowed from t name generation pre change whole row meta made found meta-is passed makes slot s lives settings same =
-    rw (lives, same, found, ← meta-is, passed, settings, makes.shown_is, makes.settings_is) refl
-
--- a change of settings is refused, after ageing
-pub bucket_change_refused : (alive : Option State) (graves kept : List Grave) (m o b u t : ℕ) (name : List ℕ) (pre : Pre) (change : SettingsChange) (whole : Bool) (before state : State) (reason : Reason)
-    → alive ≡ Some before → state ≡ aged_state t before → kept ≡ aged_graves t graves → Some reason ≡ bucket_change_refusal pre whole change state
-    → bucket_change_step (aged (slot_with alive graves m o b u) t) t name pre change whole ≡ (Refused reason, slot_with (Some state) kept t o b u)
-unfolding bucket_change_step
-bucket_change_refused alive graves kept m o b u t name pre change whole before state reason lives is kept-is refused = rw (lives, ← is, ← refused, ← kept-is) refl
-
--- ageing leaves the settings and what is shown of the bucket
-aged_settings : (t : ℕ) (s : State) → s.settings ≡ (aged_state t s).settings
-unfolding aged_state
-aged_settings t s = refl
-
-aged_shown : (t : ℕ) (name : List ℕ) (s : State) (settings : Settings) → bucket_row name (bucket_change_state s t settings) ≡ bucket_row name (bucket_change_state (aged_state t s) t settings)
-unfolding aged_state
-aged_shown t name s settings = refl
-
--- the settings are changed
-pub bucket_change_done : (alive : Option State) (graves kept : List Grave) (m o b u t : ℕ) (name : List ℕ) (pre : Pre) (change : SettingsChange) (whole : Bool) (before state after : State) (settings : Settings) (shown : BucketRow)
-    → alive ≡ Some before → state ≡ aged_state t before → kept ≡ aged_graves t graves → None ≡ bucket_change_refusal pre whole change state
-    → settings ≡ changed_settings t whole change before.settings → shown ≡ bucket_row name (bucket_change_state before t (changed_settings t whole change before.settings))
-    → after ≡ bucket_change_state state t settings
-    → bucket_change_step (aged (slot_with alive graves m o b u) t) t name pre change whole ≡ (Bucket shown, slot_with (Some after) kept t o b u)
-unfolding bucket_change_step
-bucket_change_done alive graves kept m o b u t name pre change whole before state after settings shown lives is kept-is allowed settings-is shown-is after-is =
-    let from : before.settings ≡ state.settings = aged_settings t before ∙ ap (λ (s : State). s.settings) (sym is) in
-    let made : settings ≡ changed_settings t whole change state.settings = settings-is ∙ ap (changed_settings t whole change) from in
-    let told : shown ≡ bucket_row name (bucket_change_state state t (changed_settings t whole change state.settings)) =
-    shown-is ∙ ap (λ from. bucket_row name (bucket_change_state before t (changed_settings t whole change from))) from
-    ∙ aged_shown t name before (changed_settings t whole change state.settings)
-    ∙ ap (λ s. bucket_row name (bucket_change_state s t (changed_settings t whole change state.settings))) (sym is) in
-    rw (lives, ← is, ← allowed, ← kept-is, after-is, told, made) refl
-
--- a change of a version is decided before ageing
-aged_found : (t : ℕ) (name : List ℕ) (generation : Option ℕ) (s : State) → chosen_row name generation (aged_state t s).rows ≡ chosen_row name generation s.rows
-unfolding aged_state
-aged_found t name generation s = chosen_row-aged t name generation s.rows
-
-change_decided : (alive : Option State) (graves kept : List Grave) (m o b u t : ℕ) (name : List ℕ) (generation : Option ℕ) (pre : Pre) (change : MetaChange) (whole : Bool) (before state : State) (decision : Result Changed Reason)
-    → alive ≡ Some before → state ≡ aged_state t before → kept ≡ aged_graves t graves
-    → IsDecided decision before t name generation pre change whole
-    → change_step (aged (slot_with alive graves m o b u) t) t name generation pre change whole ≡ decided decision (slot_with (Some state) kept t o b u) state name generation
-change_decided alive graves kept m o b u t name generation pre change whole before state decision lives is kept-is found =
-    let from : state.settings ≡ before.settings = ap (λ (s : State). s.settings) is ∙ sym (aged_settings t before) in
-    let same : chosen_row name generation state.rows ≡ chosen_row name generation before.rows = ap (λ (s : State). chosen_row name generation s.rows) is ∙ aged_found t name generation before in
-    rw (lives, ← is, ← kept-is) (found (slot_with (Some state) kept t o b u) state refl from same)
-
-pub change_refused : (alive : Option State) (graves kept : List Grave) (m o b u t : ℕ) (name : List ℕ) (generation : Option ℕ) (pre : Pre) (change : MetaChange) (whole : Bool) (before state : State) (decision : Result Changed Reason) (reason : Reason)
-    → alive ≡ Some before → state ≡ aged_state t before → kept ≡ aged_graves t graves
-    → IsDecided decision before t name generation pre change whole
-    → decision ≡ Err reason
-    → change_step (aged (slot_with alive graves m o b u) t) t name generation pre change whole ≡ (Refused reason, slot_with (Some state) kept t o b u)
-change_refused alive graves kept m o b u t name generation pre change whole before state decision reason lives is kept-is found refused =
-    change_decided alive graves kept m o b u t name generation pre change whole before state decision lives is kept-is found
-    ∙ ap (λ decision. decided decision (slot_with (Some state) kept t o b u) state name generation) refused
-
-pub change_made : (alive : Option State) (graves kept : List Grave) (m o b u t : ℕ) (name : List ℕ) (generation : Option ℕ) (pre : Pre) (change : MetaChange) (whole : Bool) (before state after : State) (decision : Result Changed Reason) (made : Changed) (answer : Answer)
-    → alive ≡ Some before → state ≡ aged_state t before → kept ≡ aged_graves t graves
-    → IsDecided decision before t name generation pre change whole
-    → decision ≡ Ok made → IsChangeOf made name generation t before.rows → after ≡ with_changed state name made.shown → answer ≡ Object made.shown made.settings
-    → change_step (aged (slot_with alive graves m o b u) t) t name generation pre change whole ≡ (answer, slot_with (Some after) kept t o b u)
-change_made alive graves kept m o b u t name generation pre change whole before state after decision made answer lives is kept-is found allowed of after-is answer-is =
-    change_decided alive graves kept m o b u t name generation pre change whole before state decision lives is kept-is found
-    ∙ ap (λ decision. decided decision (slot_with (Some state) kept t o b u) state name generation) allowed
-    ∙ ap (λ s. (Object made.shown made.settings, slot_with (Some s) kept t o b u)) (sym (after-is ∙ replaced made name generation t before state is of))
-    ∙ ap (λ told. (told, slot_with (Some after) kept t o b u)) (sym answer-is)
-
--- a deletion, after ageing
-pub delete_done : (alive : Option State) (graves kept : List Grave) (m o b u t : ℕ) (name : List ℕ) (generation : Option ℕ) (pre : Pre) (before state after : State) (answer : Answer)
-    → alive ≡ Some before → state ≡ aged_state t before → kept ≡ aged_graves t graves
-    → IsDeleted state after t name generation pre answer
-    → delete_step (aged (slot_with alive graves m o b u) t) t name generation pre ≡ (answer, slot_with (Some after) kept t o b u)
-delete_done alive graves kept m o b u t name generation pre before state after answer lives is kept-is found =
-    rw (lives, ← is, ← kept-is) (found (slot_with (Some state) kept t o b u) refl)
-
--- a put is refused, after ageing
-pub put_refused : (alive : Option State) (graves kept : List Grave) (m o b u t : ℕ) (name : List ℕ) (pre : Pre) (meta : Meta) (hashed : Digested) (components : Option ℕ) (expect : Expect) (before state : State) (reason : Reason)
-    → alive ≡ Some before → state ≡ aged_state t before → kept ≡ aged_graves t graves → Some reason ≡ put_refusal state.settings t pre expect hashed (live_row name state.rows)
-    → put_step (aged (slot_with alive graves m o b u) t) t name pre meta hashed components expect ≡ (Refused reason, slot_with (Some state) kept t o b u)
-unfolding put_step
-put_refused alive graves kept m o b u t name pre meta hashed components expect before state reason lives is kept-is refused = rw (lives, ← is, ← refused, ← kept-is) refl
-
--- the version is made
-pub put_done : (alive : Option State) (graves kept : List Grave) (m o b u t g : ℕ) (name : List ℕ) (pre : Pre) (meta : Meta) (hashed : Digested) (components : Option ℕ) (expect : Expect) (before state after : State) (row shown : Row) (from settings : Settings)
-    → alive ≡ Some before → state ≡ aged_state t before → kept ≡ aged_graves t graves → from ≡ state.settings → g ≡ next_generation t o
-    → None ≡ put_refusal state.settings t pre expect hashed (live_row name state.rows) → row ≡ new_row from t g name meta hashed components
-    → shown ≡ row → settings ≡ from → after ≡ put_state state t row
-    → put_step (aged (slot_with alive graves m o b u) t) t name pre meta hashed components expect ≡ (Object shown settings, slot_with (Some after) kept t g b u)
-unfolding put_step
-put_done alive graves kept m o b u t g name pre meta hashed components expect before state after row shown from settings lives is kept-is from-is g-is allowed row-is shown-is settings-is after-is =
-    rw (lives, ← is, ← allowed, ← kept-is, after-is, settings-is, shown-is, row-is, from-is, g-is) refl
+pub put_made : (slot : Slot) (t g : ℕ) (name : List ℕ) (pre : Pre) (meta : Meta) (hashed : Digested) (components : Option ℕ) (expect : Expect) (s : State) (row : Row) (made : Prepared)
+    → slot.alive ≡ Some s → None ≡ put_refusal s.settings t pre expect hashed (live_row name s.rows) → g ≡ next_generation t slot.last_object
+    → row ≡ new_row s.settings t g name meta hashed components → made.row ≡ row → made.shown ≡ row → made.settings ≡ s.settings
+    → put_step (aged slot t) t name pre meta hashed components expect ≡ decided_put (Ok made) t (aged slot t)
+unfolding put_step aged_state
+put_made slot t g name pre meta hashed components expect s row made lives passed g-is row-is made-is shown-is settings-is =
+    rw (lives, chosen_row-aged t name None s.rows, ← passed, shown-is, settings-is, made-is, row-is, g-is) refl

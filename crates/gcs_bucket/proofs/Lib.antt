@@ -1,7 +1,12 @@
+pub mod Buried
+pub mod Commands
 pub mod Desks
 pub mod Firsts
+pub mod Laws
 mod Listed
 pub mod Removed
 pub mod Slotted
 pub mod Sound
-pub mod Commands
+pub mod Sources
+pub mod Uploading
+pub mod Finishing

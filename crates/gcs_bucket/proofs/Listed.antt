@@ -7,7 +7,7 @@ use Rattle.gcs_meaning.specs.declared.command.Command.TheVariants.{BucketInsert,
 use Rattle.gcs_meaning.specs.declared.version.BucketRow.{BucketRow}
 use Rattle.gcs_meaning.specs.History.{Slots, is_listed, listed_buckets, shown_bucket, bucket_of}
 use Rattle.gcs_meaning.specs.Slot.{State, Slot, bucket_row}
-use Rattle.gcs_meaning.specs.Step.{IsBuilt, IsOnSlot}
+use Rattle.gcs_meaning.specs.Step.{IsInRange, IsOnSlot}
 use Rattle.gcs_bucket.specs.Shard.{all_listed, listed_of}
 
 -- a slot that is listed or not, before others
@@ -49,7 +49,7 @@ pub whole : (prefix after : List ℕ) (most : ℕ) (slots : Slots) (rows : List 
 whole prefix after most slots rows all few = sym (take_few most rows few) ∙ ap (take most) (sym (append-nil rows) ∙ all ∙ all_is prefix after slots)
 
 -- a command that names a bucket is one that a slot can be asked
-pub on_slot : (command : Command) (name : List ℕ) → IsBuilt command → Some name ≡ bucket_of command → IsOnSlot command
+pub on_slot : (command : Command) (name : List ℕ) → IsInRange command → Some name ≡ bucket_of command → IsOnSlot command
 on_slot (BucketInsert bucket settings) name is e = is
 on_slot (BucketList shard prefix after most) name is e = absurd (cc)
 on_slot (BucketGet bucket pre) name is e = is
@@ -70,25 +70,25 @@ on_slot (Finish bucket upload hashed) name is e = is
 on_slot (Cancel bucket upload) name is e = is
 
 -- what a slot can be asked is built
-pub built_of : (command : Command) → IsOnSlot command → IsBuilt command
-built_of (BucketList shard prefix after most) is = absurd is
-built_of (BucketInsert bucket settings) is = is
-built_of (BucketGet bucket pre) is = is
-built_of (BucketChange bucket pre change whole) is = is
-built_of (BucketDelete bucket pre) is = is
-built_of (BucketLock bucket pre) is = is
-built_of (BucketRestore bucket generation) is = is
-built_of (Listing bucket query) is = is
-built_of (Get bucket name generation soft pre) is = is
-built_of (Change bucket name generation pre change whole) is = is
-built_of (Delete bucket name generation pre) is = is
-built_of (Put bucket name pre meta hashed components expect) is = is
-built_of (Compose bucket name pre meta parts) is = is
-built_of (Restore bucket name generation pre) is = is
-built_of (Start bucket name pre meta expect total) is = is
-built_of (Append bucket upload offset total content) is = is
-built_of (Finish bucket upload hashed) is = is
-built_of (Cancel bucket upload) is = is
+pub in_range_of : (command : Command) → IsOnSlot command → IsInRange command
+in_range_of (BucketList shard prefix after most) is = absurd is
+in_range_of (BucketInsert bucket settings) is = is
+in_range_of (BucketGet bucket pre) is = is
+in_range_of (BucketChange bucket pre change whole) is = is
+in_range_of (BucketDelete bucket pre) is = is
+in_range_of (BucketLock bucket pre) is = is
+in_range_of (BucketRestore bucket generation) is = is
+in_range_of (Listing bucket query) is = is
+in_range_of (Get bucket name generation soft pre) is = is
+in_range_of (Change bucket name generation pre change whole) is = is
+in_range_of (Delete bucket name generation pre) is = is
+in_range_of (Put bucket name pre meta hashed components expect) is = is
+in_range_of (Compose bucket name pre meta parts) is = is
+in_range_of (Restore bucket name generation pre) is = is
+in_range_of (Start bucket name pre meta expect total) is = is
+in_range_of (Append bucket upload offset total content) is = is
+in_range_of (Finish bucket upload hashed) is = is
+in_range_of (Cancel bucket upload) is = is
 
 -- a slot that isn't listed adds nothing
 pub unlisted : (prefix after : List ℕ) (p : List ℕ × Slot) (rows : List BucketRow) → false ≡ is_listed prefix after p.0 → rows ≡ rows ++ listed_of prefix after p

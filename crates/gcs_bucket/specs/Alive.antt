@@ -1,15 +1,18 @@
 -- What the fields of a bucket that is alive stand for, and what is asked of them.
-use Rattle.std.specs.Prelude.{◌≤◌, ◌<◌, ◌^◌, ℕ, [], List, Option, Some, None}
+use Rattle.std.specs.Prelude.{◌≤◌, ◌<◌, ◌^◌, length, ℕ, List, Option, Some, None}
 use Rattle.std.specs.List.{AllByRecursion}
-use Rattle.std.specs.Option.{IfSome}
+use Rattle.std.specs.Option.{IfSome, option_map}
 use Rattle.gcs_meaning.specs.declared.version.Row.{Row}
+use Rattle.gcs_meaning.specs.Content.{bytes_in}
 use Rattle.gcs_meaning.specs.Policy.{AreInLimits}
-use Rattle.gcs_meaning.specs.Slot.{Grave, State}
+use Rattle.gcs_meaning.specs.Tests.{largest_object}
+use Rattle.gcs_meaning.specs.Slot.{Grave, Slot, State}
+use Rattle.gcs_versions.specs.Kept.{IsReadyToPut, IsReadyToRetire}
 use Rattle.gcs_bucket.specs.declared.alive.State.{State as Fields}
 
--- the state that a bucket's fields stand for: it has no uploads
+-- the state that a bucket's fields stand for
 abbrev pub state_of : Fields → State
-state_of b = record { settings = b.settings; generation = b.generation; metageneration = b.metageneration; created = b.created; updated = b.updated; rows = b.rows.rows; uploads = [] }
+state_of b = record { settings = b.settings; generation = b.generation; metageneration = b.metageneration; created = b.created; updated = b.updated; rows = b.rows.rows; uploads = b.uploads }
 
 -- the bucket that is alive, if one is
 abbrev pub alive_of : Option Fields → Option State
@@ -35,3 +38,19 @@ AreEarly rows = AllByRecursion IsEarly rows
 -- the generations of the versions are at most the last one
 abbrev pub AreCounted : ℕ → List Row → Type 0
 AreCounted last rows = AllByRecursion (λ row. row.generation ≤ last) rows
+
+-- the versions are no larger than an object may be
+abbrev pub AreSized : List Row → Type 0
+AreSized rows = AllByRecursion (λ row. length (bytes_in row.hashed) ≤ largest_object) rows
+
+-- the slot whose bucket, if one is alive, became this
+abbrev pub on_bucket : (State → State) → Slot → Slot
+on_bucket becomes slot = record slot { alive = option_map becomes slot.alive }
+
+-- a version of the name can be put into the bucket that is alive, if one is, without taking memory
+abbrev pub CanPut : List ℕ → Option Fields → Type 0
+CanPut name alive = IfSome alive (λ b. IsReadyToPut name b.rows)
+
+-- and one can be retired
+abbrev pub CanRetire : List ℕ → Option Fields → Type 0
+CanRetire name alive = IfSome alive (λ b. IsReadyToRetire name b.rows)

@@ -4,7 +4,8 @@ use Rattle.gcs_meaning.specs.Bounds.{IsSmall}
 use Rattle.gcs_meaning.specs.Fit.{IsFit}
 use Rattle.gcs_meaning.specs.Slot.{Slot}
 use Rattle.gcs_bucket.specs.declared.slot.Slot.{Slot as Fields}
-use Rattle.gcs_bucket.specs.Alive.{alive_of, AreCounted, AreEarly, AreLimited, GravesAreLimited}
+use Rattle.gcs_bucket.specs.Alive.{alive_of, AreCounted, AreEarly, AreLimited, AreSized, GravesAreLimited}
+use Rattle.gcs_bucket.specs.Uploading.{AreBelow}
 
 -- the slot that its fields stand for
 abbrev pub value_of : Fields → Slot
@@ -23,3 +24,5 @@ pub record IsReady (slot : Slot) : Type 0 where
   pub limits : AreLimited slot.alive
   pub early : IfSome slot.alive (λ s. AreEarly s.rows)
   pub counted : IfSome slot.alive (λ s. AreCounted slot.last_object s.rows)
+  pub below : IfSome slot.alive (λ s. AreBelow slot.next_upload s.uploads)
+  pub sized : IfSome slot.alive (λ s. AreSized s.rows)

@@ -4,7 +4,9 @@ ghost use Rattle.gcs_meaning.specs.Fit.{IsFit};
 ghost use Rattle.gcs_meaning.specs.Slot.{bucket_row, fresh_slot};
 ghost use Rattle.gcs_meaning.specs.Bounds.{IsSmall};
 ghost use Rattle.gcs_meaning.specs.Step.{step, IsOnSlot};
-ghost use Rattle.gcs_bucket.specs.Commands.{is_list};
+ghost use Rattle.gcs_meaning.specs.Making.{NewAreAbove};
+ghost use Rattle.gcs_bucket.specs.Commands.{is_list, looks_of};
+ghost use Rattle.gcs_bucket.specs.Covered.{KeepsCovered};
 
 use crate::slot::Slot;
 use gcs_chunks::Chunks;
@@ -46,6 +48,15 @@ impl Bucket {
         }
     }
 
+    /// The same slot, in memory of its own. `Err`: no memory.
+    pub fn copy(&self) -> Result<Bucket, AllocError>
+        ensures { IfOk result (λ made. made ≡ self.now) }
+    {
+        Ok(Bucket {
+            slot: self.slot.copy()?,
+        })
+    }
+
     /// What is shown of the bucket, where it is alive. `Err`: no memory.
     pub(crate) fn show(&self, name: &BucketName) -> Result<Option<BucketRow>, AllocError>
         ensures { IfOk result (λ shown. shown ≡ option_map (bucket_row name.now) self.now.alive) }
@@ -65,16 +76,18 @@ impl Bucket {
         &mut self,
         moment: u64,
         command: &Command,
-        _chunks: &Chunks,
+        chunks: &Chunks,
         steps: &mut Steps<L>,
     ) -> Result<Answer, AllocError>
         requires small { IsSmall self.old }
-        requires built { IsOnSlot command.now }
+        requires in_range { IsOnSlot command.now }
         ensures done { IfOk result (λ answer. step self.old moment command.now ≡ (answer, self.new)) }
         ensures err { OnErr result (self.new ≡ self.old) }
         ensures fit { IsFit self.new }
-        ensures cost { is_list command.now ≡ false → steps.new ≤ steps.old + 2 }
+        ensures covered { KeepsCovered moment self.old self.new }
+        ensures rises { NewAreAbove self.old self.new }
+        ensures cost { is_list command.now ≡ false → steps.new ≤ steps.old + looks_of command.now }
     {
-        self.slot.apply(moment, command, steps)
+        self.slot.apply(moment, command, chunks, steps)
     }
 }

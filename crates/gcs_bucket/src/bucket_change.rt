@@ -1,14 +1,13 @@
 //! The change of a bucket's settings.
-ghost use Rattle.std.specs.Prelude.{◌≡◌, ◌≤◌, ◌^◌, IfOk, OnErr};
+ghost use Rattle.std.specs.Prelude.{◌≡◌, ◌≤◌, ◌^◌, IfOk, OnErr, Ok};
 ghost use Rattle.gcs_meaning.specs.Aging.{aged};
-ghost use Rattle.gcs_meaning.specs.BucketChange.{bucket_change_refusal, bucket_change_state, bucket_change_step, changed_settings};
+ghost use Rattle.gcs_meaning.specs.BucketChange.{bucket_change_refusal, bucket_change_state, bucket_change_step};
 ghost use Rattle.gcs_meaning.specs.Moment.{effective_moment};
 ghost use Rattle.gcs_bucket.specs.Alive.{state_of};
-ghost use Rattle.gcs_bucket.specs.BucketChange.{MakesBucket};
+ghost use Rattle.gcs_bucket.specs.BucketChange.{decided_settings, MakesBucket};
 ghost use Rattle.gcs_bucket.specs.Slot.{IsReady, value_of};
 
 use crate::alive::State;
-use crate::graves::age_graves;
 use crate::refusals::{failed_on_bucket, locked_policy};
 use crate::slot::Slot;
 use gcs_meaning::{
@@ -25,8 +24,7 @@ pub struct NewSettings {
 }
 
 impl Slot {
-    /// The change of the bucket's settings. Memory is taken before ageing: a call that fails for it
-    /// changes nothing.
+    /// The change of the bucket's settings. It is decided before ageing, which changes nothing that it tests.
     pub fn change_bucket(
         &mut self,
         reading: u64,
@@ -42,36 +40,62 @@ impl Slot {
         ensures err { OnErr result (value_of self.new ≡ value_of self.old) }
     {
         let moment = effective(self.last_moment, reading);
-        let Some(state) = &mut self.alive else {
-            self.age(moment);
-            return Ok(Answer::Refused(Reason::NoBucket));
-        };
-        let made = state.prepare_settings(moment, bucket, change, whole)?;
-        self.last_moment = moment;
-        state.age(moment);
-        age_graves(&mut self.graves, moment);
-        if let Some(reason) = state.change_refusal(pre, change, whole) {
-            drop(made);
-            return Ok(Answer::Refused(reason));
+        let decision = self.decide_settings(moment, bucket, pre, change, whole)?;
+        self.age(moment);
+        match decision {
+            Ok(made) => Ok(self.set(moment, made)),
+            Err(reason) => Ok(Answer::Refused(reason)),
         }
-        state.set(moment, made.settings);
-        Ok(Answer::Bucket(made.shown))
+    }
+
+    // What the change comes to at `moment`: it is refused, or this is what it makes. `Err`: no memory.
+    fn decide_settings(
+        &self,
+        moment: u64,
+        bucket: &BucketName,
+        pre: &Pre,
+        change: &SettingsChange,
+        whole: bool,
+    ) -> Result<Result<NewSettings, Reason>, AllocError>
+        requires ready { IsReady (value_of self.now) }
+        ensures { IfOk result (λ decision.
+            bucket_change_step (aged (value_of self.now) moment) moment bucket.now pre.now change.now whole
+            ≡ decided_settings decision moment (aged (value_of self.now) moment)) }
+    {
+        let Some(state) = &self.alive else {
+            return Ok(Err(Reason::NoBucket));
+        };
+        if let Some(reason) = state.change_refusal(pre, change, whole) {
+            return Ok(Err(reason));
+        }
+        let settings = change.applied(&state.settings, whole, moment)?;
+        Ok(Ok(state.prepare_settings(moment, bucket, settings)?))
+    }
+
+    /// Gives the bucket that is alive the settings that were decided on at `moment`, and answers with it.
+    pub fn set(&mut self, moment: u64, made: NewSettings) -> Answer
+        requires ready { IsReady (value_of self.old) }
+        ensures { (result, value_of self.new) ≡ decided_settings (Ok made) moment (value_of self.old) }
+    {
+        let NewSettings { settings, shown } = made;
+        if let Some(state) = &mut self.alive {
+            state.set(moment, settings);
+        }
+        Answer::Bucket(shown)
     }
 }
 
 impl State {
-    /// Takes the memory of a change at `moment`. `Err`: no memory.
+    /// Takes the memory of these settings at `moment`. `Err`: no memory.
     pub fn prepare_settings(
         &self,
         moment: u64,
         bucket: &BucketName,
-        change: &SettingsChange,
-        whole: bool,
+        settings: Settings,
     ) -> Result<NewSettings, AllocError>
         requires { self.now.metageneration ≤ 2 ^ 62 }
-        ensures { IfOk result (λ made. MakesBucket made bucket.now (bucket_change_state (state_of self.now) moment (changed_settings moment whole change.now self.now.settings))) }
+        ensures { IfOk result (λ made. MakesBucket made bucket.now (bucket_change_state (state_of self.now) moment settings)) }
     {
-        let settings = change.applied(&self.settings, whole, moment)?;
         let shown = BucketRow {
             name: bucket.copy()?,
             generation: self.generation,

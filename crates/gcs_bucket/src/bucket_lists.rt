@@ -2,14 +2,13 @@
 ghost use Rattle.std.specs.Prelude.{◌≡◌, ◌≤◌, ◌+◌, ◌++◌, ◌&&◌, IfOk, OnOk, length, option_map};
 ghost use Rattle.gcs_meaning.specs.Slot.{bucket_row};
 ghost use Rattle.gcs_meaning.specs.History.{is_listed, listed_buckets, unnamed_answer};
-ghost use Rattle.gcs_meaning.specs.Order.{is_below};
 ghost use Rattle.gcs_meaning.specs.Texts.{begins};
 ghost use Rattle.gcs_bucket.specs.Shard.{listed_of};
 
 use crate::bucket::Bucket;
+use gcs_listing::is_below;
 use gcs_meaning::{Answer, BucketName, BucketRow, Command, List, Reason};
 use std::alloc::{AllocError, Global};
-use std::cmp::Ordering;
 
 /// The answer to a command that names no bucket: a list of the buckets that are alive. `Err`: no memory.
 ///
@@ -86,13 +85,4 @@ fn has_prefix(name: &[u8], prefix: &[u8]) -> bool
     ensures { result ≡ begins prefix.now name.now }
 {
     name.starts_with(prefix)
-}
-
-fn is_below(text: &[u8], name: &[u8]) -> bool
-    ensures { result ≡ is_below text.now name.now }
-{
-    match text.cmp(name) {
-        Ordering::Less => true,
-        Ordering::Equal | Ordering::Greater => false,
-    }
 }

@@ -1,12 +1,12 @@
 //! The desk of a program that shares its store with nobody.
 ghost use Rattle.std.specs.Prelude.{◌≡◌, ◌<◌, ℕ, [], IfOk};
 ghost use Rattle.gcs_meaning.specs.Desk.{AreLists, Moves};
-ghost use Rattle.gcs_meaning.specs.Step.{IsBuilt};
+ghost use Rattle.gcs_meaning.specs.Step.{IsInRange};
 ghost use Rattle.gcs_bucket.specs.Desk.{AreOwn, history_at};
 
 use crate::shard::Shard;
 use gcs_chunks::{Chunks, Piece};
-use gcs_meaning::{Answer, Command, Desk, List, Unheld};
+use gcs_meaning::{Answer, Command, Desk, List, SHARDS, Unheld};
 use std::alloc::{AllocError, Global};
 use std::marker::Model;
 use std::sync::Arc;
@@ -36,8 +36,8 @@ impl<'c> PlainDesk<'c> {
     pub fn new(alloc: Global, chunks: &'c Chunks) -> Result<PlainDesk<'c>, AllocError>
         ensures { IfOk result (λ desk. (s : ℕ) → history_at desk s ≡ []) }
     {
-        let mut shards = Vec::with_capacity(alloc, 16)?;
-        for _ in 0..16u32 {
+        let mut shards = Vec::with_capacity(alloc, SHARDS as usize)?;
+        for _ in 0..SHARDS {
             shards.push(Shard::new(alloc, chunks))?;
         }
         Ok(PlainDesk { alloc, shards })
@@ -84,7 +84,7 @@ fn call_shard(
     command: Command,
 ) -> Result<Answer, Unheld>
     requires place { place < 16 }
-    requires built { IsBuilt command }
+    requires in_range { IsInRange command }
     requires own { AreOwn shards.old.items }
     ensures own { AreOwn shards.new.items }
     ensures lists { Moves 0 (history_at shards.old.items) (history_at shards.old.items) (history_at shards.new.items) (history_at shards.new.items) place moment command result }

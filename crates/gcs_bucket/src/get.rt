@@ -8,7 +8,6 @@ ghost use Rattle.gcs_meaning.specs.Get.{get_step};
 ghost use Rattle.gcs_meaning.specs.Moment.{effective_moment};
 ghost use Rattle.gcs_bucket.specs.Slot.{value_of};
 
-use crate::choosing::find_chosen;
 use crate::refusals::failed_precondition;
 use crate::slot::Slot;
 use gcs_meaning::{Answer, Copied, Kind, Name, Pre, Reason, Row, Steps, effective};
@@ -86,11 +85,12 @@ fn find_asked<'a, L: Ledger>(
             None => None,
         }
     } else {
-        find_chosen(rows, name, generation, steps)
+        rows.chosen(name, generation, steps)
     }
 }
 
-fn find_soft<'a, L: Ledger>(
+/// The soft-deleted version of that generation, unless it is gone at `moment`. One step.
+pub fn find_soft<'a, L: Ledger>(
     rows: &'a Versions,
     moment: u64,
     name: &Name,

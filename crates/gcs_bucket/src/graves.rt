@@ -1,13 +1,18 @@
 //! Deleted buckets, until their hard times.
-ghost use Rattle.std.specs.Prelude.{◌≡◌, ◌≤◌, ◌<◌, ◌^◌, filter, length, map, nat_lt, vec_len, vec_capacity};
+ghost use Rattle.std.specs.Prelude.{◌≡◌, ◌≤◌, ◌<◌, ◌^◌, ◌&&◌, filter, length, map, nat_lt, vec_len, vec_capacity, IfOk};
+ghost use Rattle.std.specs.List.{find, position_or_len};
+ghost use Rattle.std.specs.Option.{option_copied, option_map};
 ghost use Rattle.gcs_meaning.specs.Aging.{aged_grave, aged_graves};
 ghost use Rattle.gcs_meaning.specs.BucketDeletion.{grave_of, with_grave};
+ghost use Rattle.gcs_meaning.specs.BucketRestore.{grave_found, is_grave_of, restored_state, without_grave};
 ghost use Rattle.gcs_meaning.specs.Policy.{AreInLimits};
-ghost use Rattle.gcs_bucket.specs.Alive.{state_of};
+ghost use Rattle.gcs_meaning.specs.Slot.{bucket_row};
+ghost use Rattle.gcs_bucket.specs.Alive.{alive_of, state_of};
 ghost use Rattle.gcs_versions.specs.Rows.{map_at};
 
 use crate::alive::State;
-use gcs_meaning::MICROSECONDS_PER_SECOND;
+use gcs_meaning::{BucketName, BucketRow, MICROSECONDS_PER_SECOND};
+use std::alloc::{AllocError, Global};
 use std::marker::Model;
 
 /// A bucket that was deleted, seen as its state and the moment from which on it is gone.
@@ -28,16 +33,45 @@ impl Model for Grave {
 
 impl Grave {
     /// The bucket as it is deleted at `moment` (microseconds since 1970): it stays for its
-    /// soft-delete duration, and as long as one of its versions does.
+    /// soft-delete duration, and as long as one of its versions does. Its uploads go.
     #[tactic(auto, unfolding(gcs_meaning::specs::BucketDeletion::grave_of))]
-    pub fn of(state: State, moment: u64) -> Grave
+    pub fn of(mut state: State, moment: u64) -> Grave
         requires limits { AreInLimits state.settings }
         requires moment { moment < 2 ^ 62 }
         ensures { result ≡ grave_of moment (state_of state) }
     {
         let until = moment + state.settings.soft_seconds * MICROSECONDS_PER_SECOND;
         let hard = until.max(state.rows.latest_hard());
+        state.uploads.clear();
         Grave { state, hard }
+    }
+
+    /// The same deleted bucket, in memory of its own. `Err`: no memory.
+    fn copy(&self) -> Result<Grave, AllocError>
+        ensures { IfOk result (λ made. made ≡ self.now) }
+    {
+        Ok(Grave {
+            state: self.state.copy()?,
+            hard: self.hard,
+        })
+    }
+
+    /// What is shown of the bucket once it is alive again at `moment`. `Err`: no memory.
+    pub fn show_restored(&self, bucket: &BucketName, moment: u64) -> Result<BucketRow, AllocError>
+        requires { self.now.state.metageneration ≤ 2 ^ 62 }
+        ensures { IfOk result (λ row. row ≡ bucket_row bucket.now (restored_state moment self.now.state)) }
+    {
+        let mut row = self.state.show(bucket)?;
+        row.metageneration += 1;
+        row.updated = moment;
+        Ok(row)
+    }
+
+    // The bucket has this generation.
+    fn is_of(&self, generation: u64) -> bool
+        ensures { result ≡ is_grave_of generation self.now }
+    {
+        self.state.generation == generation
     }
 
     fn age(&mut self, moment: u64)
@@ -94,4 +128,49 @@ pub fn add_grave(graves: &mut Vec<Grave>, grave: Grave, moment: u64)
     if moment < grave.hard {
         let _ = graves.insert(0, grave);
     }
+}
+
+/// The same deleted buckets, in memory of their own. `Err`: no memory.
+pub fn copy_graves(alloc: Global, graves: &[Grave]) -> Result<Vec<Grave>, AllocError>
+    ensures { IfOk result (λ made. made.items ≡ graves.now) }
+{
+    let mut made = Vec::new(alloc);
+    for grave in graves {
+        made.push(grave.copy()?)?;
+    }
+    Ok(made)
+}
+
+/// The deleted bucket of that generation, unless it is gone at `moment`.
+pub fn find_grave(graves: &[Grave], moment: u64, generation: u64) -> Option<&Grave>
+    ensures { option_copied result ≡ find (λ g. nat_lt moment g.hard && is_grave_of generation g) graves.now }
+{
+    graves
+        .iter()
+        .find(|grave| moment < grave.hard && grave.is_of(generation))
+}
+
+/// Takes the deleted bucket of that generation out, where it is there.
+pub fn take_grave(graves: &mut Vec<Grave>, generation: u64) -> Option<State>
+    ensures state { alive_of result ≡ option_map (λ g. g.state) (grave_found generation graves.old.items) }
+    ensures rest { graves.new.items ≡ without_grave generation graves.old.items }
+{
+    let place = place_of(graves, generation);
+    if place >= graves.len() {
+        return None;
+    }
+    let grave = graves.remove(place);
+    Some(grave.state)
+}
+
+// Where the deleted bucket of that generation is, and behind all where there is none.
+fn place_of(graves: &[Grave], generation: u64) -> usize
+    ensures { result ≡ position_or_len (is_grave_of generation) graves.now }
+{
+    for (place, grave) in graves.iter().enumerate() {
+        if grave.is_of(generation) {
+            return place;
+        }
+    }
+    graves.len()
 }

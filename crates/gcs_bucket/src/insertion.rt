@@ -10,6 +10,7 @@ ghost use Rattle.gcs_bucket.specs.Slot.{IsReady, value_of};
 use crate::alive::State;
 use crate::slot::Slot;
 use gcs_meaning::{Answer, BucketName, Copied, Reason, Retention, Settings, effective};
+use gcs_uploads::Uploads;
 use gcs_versions::Versions;
 use std::alloc::{AllocError, Global};
 
@@ -60,6 +61,7 @@ impl State {
             created: moment,
             updated: moment,
             rows: Versions::new(alloc),
+            uploads: Uploads::new(alloc),
         })
     }
 }

@@ -3,13 +3,19 @@
 #![tactic(auto)]
 
 mod alive;
+mod append;
 mod bucket;
 mod bucket_change;
 mod bucket_deletion;
 mod bucket_get;
 mod bucket_lists;
-mod choosing;
+mod bucket_lock;
+mod bucket_restore;
+mod cancel;
+mod compose;
 mod desk;
+mod ended;
+mod finish;
 mod get;
 mod graves;
 mod insertion;
@@ -18,9 +24,11 @@ mod object_change;
 mod object_deletion;
 mod put;
 mod refusals;
+mod restore;
 mod shard;
 mod slot;
 mod slots;
+mod start;
 
 pub use bucket::Bucket;
 pub use desk::PlainDesk;

@@ -1,17 +1,13 @@
 //! The change of a version's metadata.
-ghost use Rattle.std.specs.Prelude.{◌≡◌, ◌≤◌, ◌+◌, ◌^◌, IfOk, OnErr};
-ghost use Rattle.std.specs.List.{AllByRecursion};
-ghost use Rattle.gcs_meaning.specs.declared.command.Answer.TheVariants.{Object};
+ghost use Rattle.std.specs.Prelude.{◌≡◌, ◌≤◌, ◌+◌, ◌^◌, IfOk, OnErr, Ok};
 ghost use Rattle.gcs_meaning.specs.Aging.{aged};
 ghost use Rattle.gcs_meaning.specs.Moment.{effective_moment};
 ghost use Rattle.gcs_meaning.specs.ObjectChange.{change_refusal, change_step, changed_row, is_released};
 ghost use Rattle.gcs_bucket.specs.Alive.{state_of};
-ghost use Rattle.gcs_bucket.specs.ObjectChange.{with_changed, IsChangeOf, IsDecided, IsInPlace, MakesChange};
+ghost use Rattle.gcs_bucket.specs.ObjectChange.{decided_change, with_changed, AreInPlace, IsInPlace, MakesChange};
 ghost use Rattle.gcs_bucket.specs.Slot.{IsReady, value_of};
 
 use crate::alive::State;
-use crate::choosing::find_chosen;
-use crate::graves::age_graves;
 use crate::refusals::{earlier_time, failed_precondition, too_much_custom};
 use crate::slot::Slot;
 use gcs_meaning::{
@@ -50,25 +46,16 @@ impl Slot {
         ensures cost { steps.new ≤ steps.old + 1 }
     {
         let moment = effective(self.last_moment, reading);
-        let Some(state) = &mut self.alive else {
-            self.age(moment);
-            return Ok(Answer::Refused(Reason::NoBucket));
-        };
-        let decision = state.decide_change(moment, name, generation, pre, change, whole, steps)?;
-        self.last_moment = moment;
-        state.age(moment);
-        age_graves(&mut self.graves, moment);
+        let decision = self.decide_change(moment, name, generation, pre, change, whole, steps)?;
+        self.age(moment);
         match decision {
-            Ok(made) => Ok(state.replace(moment, name, made)),
+            Ok(made) => Ok(self.replace(moment, name, made)),
             Err(reason) => Ok(Answer::Refused(reason)),
         }
     }
-}
 
-impl State {
-    /// Decides on the change of a version's metadata at `moment`: it is refused, or this is what it
-    /// makes. `Err`: no memory. One step.
-    pub fn decide_change<L: Ledger>(
+    // What the change comes to at `moment`: it is refused, or this is what it makes. `Err`: no memory. At most one step.
+    fn decide_change<L: Ledger>(
         &self,
         moment: u64,
         name: &Name,
@@ -78,35 +65,51 @@ impl State {
         whole: bool,
         steps: &mut Steps<L>,
     ) -> Result<Result<Changed, Reason>, AllocError>
-        requires { AllByRecursion (λ row. row.metageneration ≤ 2 ^ 62) self.now.rows.rows }
-        ensures decided { IfOk result (λ decision. IsDecided decision (state_of self.now) moment name.now generation pre.now change.now whole) }
-        ensures change { IfOk result (λ decision. IfOk decision (λ made. IsChangeOf made name.now generation moment self.now.rows.rows)) }
-        ensures cost { steps.new ≡ steps.old + 1 }
+        requires ready { IsReady (value_of self.now) }
+        ensures decided { IfOk result (λ decision.
+            change_step (aged (value_of self.now) moment) moment name.now generation pre.now change.now whole
+            ≡ decided_change decision name.now (aged (value_of self.now) moment)) }
+        ensures place { IfOk result (λ decision. IfOk decision (λ made. AreInPlace made name.now moment (aged (value_of self.now) moment))) }
+        ensures cost { steps.new ≤ steps.old + 1 }
     {
-        self.rows.known();
-        let Some(row) = find_chosen(&self.rows, name, generation, steps) else {
+        let Some(state) = &self.alive else {
+            return Ok(Err(Reason::NoBucket));
+        };
+        state.rows.known();
+        let Some(row) = state.rows.chosen(name, generation, steps) else {
             return Ok(Err(Reason::NoObject));
         };
         let meta = change.applied(&row.meta, whole)?;
         if let Some(reason) = change_refusal(pre, row, &meta) {
             return Ok(Err(reason));
         }
-        Ok(Ok(prepare_change(&self.settings, moment, row, meta)?))
+        Ok(Ok(prepare_change(&state.settings, moment, row, meta)?))
     }
 
-    /// Gives the version that was decided on its new metadata, and answers with it.
-    pub fn replace(&mut self, moment: u64, name: &Name, made: Changed) -> Answer
-        requires { IsInPlace made name.now moment self.old.rows.rows }
-        ensures state { state_of self.new ≡ with_changed (state_of self.old) name.now made.shown }
-        ensures answer { result ≡ Object made.shown made.settings }
+    // Gives the version that was decided on its new metadata, and answers with it.
+    fn replace(&mut self, moment: u64, name: &Name, made: Changed) -> Answer
+        requires { AreInPlace made name.now moment (value_of self.old) }
+        ensures { (result, value_of self.new) ≡ decided_change (Ok made) name.now (value_of self.old) }
     {
         let Changed {
             meta,
             shown,
             settings,
         } = made;
-        self.rows.change(name, shown.generation, meta, shown.retention_start, moment);
+        if let Some(state) = &mut self.alive {
+            state.replace(moment, name, meta, &shown);
+        }
         Answer::Object(shown, settings)
+    }
+}
+
+impl State {
+    /// Gives the version that is shown so these metadata, its own.
+    pub fn replace(&mut self, moment: u64, name: &Name, meta: Meta, shown: &Row)
+        requires { IsInPlace meta shown.now name.now moment self.old.rows.rows }
+        ensures { state_of self.new ≡ with_changed (state_of self.old) name.now shown.now }
+    {
+        self.rows.change(name, shown.generation, meta, shown.retention_start, moment);
     }
 }
 

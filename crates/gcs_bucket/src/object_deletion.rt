@@ -1,5 +1,5 @@
 //! The deletion of a version, and what becomes of one that is replaced.
-ghost use Rattle.std.specs.Prelude.{◌≡◌, ◌≤◌, ◌<◌, ◌+◌, ◌^◌, IfOk, OnErr, OnOk, Some};
+ghost use Rattle.std.specs.Prelude.{◌≡◌, ◌≤◌, ◌<◌, ◌+◌, ◌^◌, IfOk, OnErr, Some, Ok};
 ghost use Rattle.std.specs.Option.{option_map};
 ghost use Rattle.gcs_meaning.specs.Aging.{aged};
 ghost use Rattle.gcs_meaning.specs.Choosing.{chosen_row};
@@ -7,13 +7,11 @@ ghost use Rattle.gcs_meaning.specs.Moment.{effective_moment};
 ghost use Rattle.gcs_meaning.specs.ObjectDeletion.{delete_refusal, delete_state, delete_step};
 ghost use Rattle.gcs_meaning.specs.Policy.{AreInLimits};
 ghost use Rattle.gcs_versions.specs.Kept.{IsReadyToPut, IsReadyToRetire};
-ghost use Rattle.gcs_bucket.specs.Alive.{AreEarly, IsEarly, state_of};
-ghost use Rattle.gcs_bucket.specs.ObjectDeletion.{IsDeleted};
+ghost use Rattle.gcs_bucket.specs.Alive.{CanRetire, IsEarly, state_of};
+ghost use Rattle.gcs_bucket.specs.ObjectDeletion.{decided_deletion, IsChosenAt};
 ghost use Rattle.gcs_bucket.specs.Slot.{IsReady, value_of};
 
 use crate::alive::State;
-use crate::choosing::find_chosen;
-use crate::graves::age_graves;
 use crate::refusals::{failed_precondition, kept_version};
 use crate::slot::Slot;
 use gcs_meaning::{Answer, Name, Pre, Reason, Row, Settings, Steps, effective};
@@ -22,8 +20,8 @@ use std::alloc::AllocError;
 use std::sync::ledger::Ledger;
 
 impl Slot {
-    /// The deletion of a version. Memory is taken before ageing: a call that fails for it changes
-    /// nothing. At most one step.
+    /// The deletion of a version. It is decided before ageing, which takes no version that a deletion can choose. At
+    /// most one step.
     pub fn delete<L: Ledger>(
         &mut self,
         reading: u64,
@@ -40,57 +38,61 @@ impl Slot {
         ensures cost { steps.new ≤ steps.old + 1 }
     {
         let moment = effective(self.last_moment, reading);
-        let Some(state) = &mut self.alive else {
-            self.age(moment);
-            return Ok(Answer::Refused(Reason::NoBucket));
-        };
-        state.prepare_delete(name)?;
-        self.last_moment = moment;
-        state.age(moment);
-        age_graves(&mut self.graves, moment);
-        Ok(state.delete(moment, name, generation, pre, steps))
-    }
-}
-
-impl State {
-    /// Takes the memory of a deletion, and changes nothing that is seen. `Err`: no memory.
-    pub fn prepare_delete(&mut self, name: &Name) -> Result<(), AllocError>
-        ensures state { state_of self.new ≡ state_of self.old }
-        ensures settings { self.new.settings ≡ self.old.settings }
-        ensures retire { OnOk result (IsReadyToRetire name.now self.new.rows) }
-    {
-        self.rows.prepare(name)?;
-        Ok(())
+        let decision = self.decide_delete(moment, name, generation, pre, steps);
+        self.prepare(name)?;
+        self.age(moment);
+        match decision {
+            Ok(found) => Ok(self.take_away(moment, name, generation, found)),
+            Err(reason) => Ok(Answer::Refused(reason)),
+        }
     }
 
-    /// Deletes a version at `moment`, unless a test fails. It was prepared. One step.
-    pub fn delete<L: Ledger>(
-        &mut self,
+    // What the deletion comes to at `moment`: it is refused, or this is the generation of the version that goes. At
+    // most one step.
+    fn decide_delete<L: Ledger>(
+        &self,
         moment: u64,
         name: &Name,
         generation: Option<u64>,
         pre: &Pre,
         steps: &mut Steps<L>,
-    ) -> Answer
-        requires limits { AreInLimits self.old.settings }
-        requires early { AreEarly self.old.rows.rows }
+    ) -> Result<u64, Reason>
+        requires ready { IsReady (value_of self.now) }
         requires moment { moment < 2 ^ 62 }
-        requires retire { IsReadyToRetire name.now self.old.rows }
-        ensures done { IsDeleted (state_of self.old) (state_of self.new) moment name.now generation pre.now result }
-        ensures cost { steps.new ≡ steps.old + 1 }
+        ensures decided { delete_step (aged (value_of self.now) moment) moment name.now generation pre.now
+            ≡ decided_deletion result moment name.now generation (aged (value_of self.now) moment) }
+        ensures chosen { IfOk result (λ found. IsChosenAt name.now generation found (aged (value_of self.now) moment)) }
+        ensures cost { steps.new ≤ steps.old + 1 }
     {
         let named = generation.is_some();
-        let Some(row) = find_chosen(&self.rows, name, generation, steps) else {
-            return Answer::Refused(Reason::NoObject);
+        let Some(state) = &self.alive else {
+            return Err(Reason::NoBucket);
         };
-        if let Some(reason) = deletion_refusal(&self.settings, moment, named, pre, row) {
-            return Answer::Refused(reason);
+        let Some(row) = state.rows.chosen(name, generation, steps) else {
+            return Err(Reason::NoObject);
+        };
+        match deletion_refusal(&state.settings, moment, named, pre, row) {
+            Some(reason) => Err(reason),
+            None => Ok(row.generation),
         }
-        let found = row.generation;
-        self.remove(moment, name, generation, found);
-        Answer::Empty
     }
 
+    // Retires the version of the generation `found`, which is there as the one that was asked for. It was prepared.
+    fn take_away(&mut self, moment: u64, name: &Name, asked: Option<u64>, found: u64) -> Answer
+        requires ready { IsReady (value_of self.old) }
+        requires moment { moment < 2 ^ 62 }
+        requires retire { CanRetire name.now self.old.alive }
+        requires chosen { IsChosenAt name.now asked found (value_of self.old) }
+        ensures { (result, value_of self.new) ≡ decided_deletion (Ok found) moment name.now asked (value_of self.old) }
+    {
+        if let Some(state) = &mut self.alive {
+            state.remove(moment, name, asked, found);
+        }
+        Answer::Empty
+    }
+}
+
+impl State {
     /// Retires the version of the generation `found`, which is there as the one that was asked for.
     #[tactic(auto, unfolding(gcs_meaning::specs::ObjectDeletion::delete_state))]
     pub fn remove(&mut self, moment: u64, name: &Name, asked: Option<u64>, found: u64)
@@ -99,7 +101,6 @@ impl State {
         requires retire { IsReadyToRetire name.now self.old.rows }
         requires found { option_map (λ row. row.generation) (chosen_row name.now asked self.old.rows.rows) ≡ Some found }
         ensures state { state_of self.new ≡ delete_state (state_of self.old) moment name.now asked }
-        ensures settings { self.new.settings ≡ self.old.settings }
         ensures put { IsReadyToPut name.now self.old.rows → IsReadyToPut name.now self.new.rows }
     {
         self.rows.known();

@@ -1,7 +1,7 @@
 //! A new version of a name.
-ghost use Rattle.std.specs.Prelude.{◌≡◌, ◌≤◌, ◌<◌, ◌+◌, ◌^◌, IfOk, OnErr, OnOk, None, true, unwrap_or};
+ghost use Rattle.std.specs.Prelude.{◌≡◌, ◌≤◌, ◌<◌, ◌+◌, ◌^◌, IfOk, OnErr, None, Ok, true, unwrap_or};
 ghost use Rattle.std.specs.List.{AllByRecursion};
-ghost use Rattle.std.specs.Option.{IfSome, option_copied};
+ghost use Rattle.std.specs.Option.{IfSome, option_copied, option_map};
 ghost use Rattle.gcs_meaning.specs.Aging.{aged};
 ghost use Rattle.gcs_meaning.specs.Choosing.{is_live, live_row};
 ghost use Rattle.gcs_meaning.specs.Moment.{effective_moment};
@@ -10,12 +10,11 @@ ghost use Rattle.gcs_meaning.specs.Order.{IsNumbered};
 ghost use Rattle.gcs_meaning.specs.Policy.{AreInLimits};
 ghost use Rattle.gcs_meaning.specs.Put.{generation_of, kept_meta, metageneration_of, new_row, put_refusal, put_state, put_step, replaced_refusal};
 ghost use Rattle.gcs_versions.specs.Kept.{IsReadyToPut, IsReadyToRetire};
-ghost use Rattle.gcs_bucket.specs.Alive.{AreEarly, IsEarly, state_of};
-ghost use Rattle.gcs_bucket.specs.Put.{Makes};
+ghost use Rattle.gcs_bucket.specs.Alive.{AreEarly, CanPut, CanRetire, IsEarly, state_of};
+ghost use Rattle.gcs_bucket.specs.Put.{decided_put, tested_put, IsNext, IsNextAlive};
 ghost use Rattle.gcs_bucket.specs.Slot.{IsReady, value_of};
 
 use crate::alive::State;
-use crate::graves::age_graves;
 use crate::refusals::{differing_digest, failed_precondition, kept_version, too_large};
 use crate::slot::Slot;
 use gcs_meaning::{
@@ -26,17 +25,18 @@ use std::alloc::AllocError;
 use std::sync::ledger::Ledger;
 
 /// What a version that is made needs of memory, taken before anything is changed: the version, its
-/// copy for the answer, and the settings that are shown with it.
+/// copy for the answer, and the settings that are shown with it. Beside it the generation of the live version of the
+/// name, which it replaces.
 #[derive(Drop)]
 pub struct Prepared {
     pub row: Row,
     pub shown: Row,
     pub settings: Settings,
+    pub live: Option<u64>,
 }
 
 impl Slot {
-    /// The put of a version. Memory is taken before ageing: a call that fails for it changes
-    /// nothing. At most two steps.
+    /// The put of a version. At most one step.
     pub fn put<L: Ledger>(
         &mut self,
         reading: u64,
@@ -53,48 +53,70 @@ impl Slot {
             let t = effective_moment self.old.last_moment reading in
             put_step (aged (value_of self.old) t) t name.now pre.now meta.now hashed.now components expect.now ≡ (answer, value_of self.new)) }
         ensures err { OnErr result (value_of self.new ≡ value_of self.old) }
-        ensures cost { steps.new ≤ steps.old + 2 }
+        ensures cost { steps.new ≤ steps.old + 1 }
     {
         let moment = effective(self.last_moment, reading);
-        let generation = moment.max(self.last_object + 1);
-        let Some(state) = &mut self.alive else {
-            self.age(moment);
-            return Ok(Answer::Refused(Reason::NoBucket));
-        };
-        let made = state.prepare_put(moment, generation, name, meta, hashed, components)?;
-        self.last_moment = moment;
-        state.age(moment);
-        age_graves(&mut self.graves, moment);
-        if let Some(reason) = state.put_refusal(moment, name, pre, expect, hashed, steps) {
-            drop(made);
-            return Ok(Answer::Refused(reason));
-        }
-        state.put(moment, made.row, steps);
-        self.last_object = generation;
-        Ok(Answer::Object(made.shown, made.settings))
+        self.put_at(moment, name, pre, meta, hashed, components, expect, steps)
     }
-}
 
-impl State {
-    /// Takes the memory of a put, and changes nothing that is seen. `Err`: no memory.
-    pub fn prepare_put(
+    /// The put of a version at `moment`. It is decided before ageing, which takes no live version. At most one step.
+    pub fn put_at<L: Ledger>(
         &mut self,
         moment: u64,
-        generation: u64,
         name: &Name,
+        pre: &Pre,
         meta: &Meta,
         hashed: &Hashed,
         components: Option<u32>,
-    ) -> Result<Prepared, AllocError>
-        ensures state { state_of self.new ≡ state_of self.old }
-        ensures settings { self.new.settings ≡ self.old.settings }
-        ensures put { OnOk result (IsReadyToPut name.now self.new.rows) }
-        ensures retire { OnOk result (IsReadyToRetire name.now self.new.rows) }
-        ensures made { IfOk result (λ made. Makes made (state_of self.old).settings (new_row (state_of self.old).settings moment generation name.now meta.now hashed.now components)) }
+        expect: &Expect,
+        steps: &mut Steps<L>,
+    ) -> Result<Answer, AllocError>
+        requires ready { IsReady (value_of self.old) }
+        requires moment { moment < 2 ^ 62 }
+        ensures done { IfOk result (λ answer.
+            put_step (aged (value_of self.old) moment) moment name.now pre.now meta.now hashed.now components expect.now ≡ (answer, value_of self.new)) }
+        ensures err { OnErr result (value_of self.new ≡ value_of self.old) }
+        ensures cost { steps.new ≤ steps.old + 1 }
     {
-        self.rows.prepare(name)?;
+        let decision = self.decide_put(moment, name, pre, meta, hashed, components, expect, steps)?;
+        self.prepare(name)?;
+        self.age(moment);
+        match decision {
+            Ok(made) => Ok(self.add(moment, name, made)),
+            Err(reason) => Ok(Answer::Refused(reason)),
+        }
+    }
+
+    /// What the put comes to at `moment`: it is refused, or this is what it makes. `Err`: no memory. At most one step.
+    pub fn decide_put<L: Ledger>(
+        &self,
+        moment: u64,
+        name: &Name,
+        pre: &Pre,
+        meta: &Meta,
+        hashed: &Hashed,
+        components: Option<u32>,
+        expect: &Expect,
+        steps: &mut Steps<L>,
+    ) -> Result<Result<Prepared, Reason>, AllocError>
+        requires ready { IsReady (value_of self.now) }
+        requires moment { moment < 2 ^ 62 }
+        ensures decided { IfOk result (λ decision.
+            put_step (aged (value_of self.now) moment) moment name.now pre.now meta.now hashed.now components expect.now
+            ≡ decided_put decision moment (aged (value_of self.now) moment)) }
+        ensures next { IfOk result (λ decision. IfOk decision (λ made. IsNextAlive made name.now (aged (value_of self.now) moment))) }
+        ensures cost { steps.new ≤ steps.old + 1 }
+    {
+        let Some(state) = &self.alive else {
+            return Ok(Err(Reason::NoBucket));
+        };
+        let live = match state.test_put(moment, name, pre, expect, hashed, steps) {
+            Ok(live) => live,
+            Err(reason) => return Ok(Err(reason)),
+        };
+        let generation = moment.max(self.last_object + 1);
         let row = make_row(
-            &self.settings,
+            &state.settings,
             moment,
             generation,
             name,
@@ -103,17 +125,42 @@ impl State {
             components,
         )?;
         let shown = row.copy()?;
-        let settings = self.settings.copy()?;
-        Ok(Prepared {
+        let settings = state.settings.copy()?;
+        Ok(Ok(Prepared {
             row,
             shown,
             settings,
-        })
+            live,
+        }))
     }
 
-    /// The first test of a put at `moment` that fails. One step.
+    /// Adds the version of that name that was decided on and prepared, and answers with it.
+    pub fn add(&mut self, moment: u64, name: &Name, made: Prepared) -> Answer
+        requires ready { IsReady (value_of self.old) }
+        requires moment { moment < 2 ^ 62 }
+        requires put { CanPut name.now self.old.alive }
+        requires retire { CanRetire name.now self.old.alive }
+        requires next { IsNextAlive made name.now (value_of self.old) }
+        ensures { (result, value_of self.new) ≡ decided_put (Ok made) moment (value_of self.old) }
+    {
+        let Prepared {
+            row,
+            shown,
+            settings,
+            live,
+        } = made;
+        self.last_object = row.generation;
+        if let Some(state) = &mut self.alive {
+            state.put(moment, row, live);
+        }
+        Answer::Object(shown, settings)
+    }
+}
+
+impl State {
+    /// The tests of a put at `moment`: the first that fails, or the generation of the live version of the name. One step.
     #[tactic(auto, unfolding(gcs_meaning::specs::Put::put_refusal))]
-    pub fn put_refusal<L: Ledger>(
+    pub fn test_put<L: Ledger>(
         &self,
         moment: u64,
         name: &Name,
@@ -121,57 +168,55 @@ impl State {
         expect: &Expect,
         hashed: &Hashed,
         steps: &mut Steps<L>,
-    ) -> Option<Reason>
+    ) -> Result<Option<u64>, Reason>
         requires limits { AreInLimits self.now.settings }
         requires early { AreEarly self.now.rows.rows }
         requires moment { moment < 2 ^ 62 }
-        ensures refusal { result ≡ put_refusal self.now.settings moment pre.now expect.now hashed.now (live_row name.now self.now.rows.rows) }
+        ensures tested { result ≡ tested_put (put_refusal self.now.settings moment pre.now expect.now hashed.now (live_row name.now self.now.rows.rows)) (live_row name.now self.now.rows.rows) }
         ensures cost { steps.new ≡ steps.old + 1 }
     {
         let live = self.rows.live(name, steps);
         let (generation, metageneration) = numbers(live);
         let kept = kept_live(&self.settings, moment, live);
-        failed_precondition(pre, generation, metageneration)
+        let refusal = failed_precondition(pre, generation, metageneration)
             .or(kept)
             .or_else(|| differing_digest(expect, hashed))
-            .or_else(|| too_large(hashed.content().len()))
+            .or_else(|| too_large(hashed.content().len()));
+        match refusal {
+            Some(reason) => Err(reason),
+            None => Ok(live.map(|row| row.generation)),
+        }
     }
 
-    /// Retires the live version of the row's name, and adds the row, which is live and whose
-    /// generation is above all of the bucket's. Both were prepared. One step.
+    /// Retires the live version of the row's name, of this generation, and adds the row, which is live and whose
+    /// generation is above all of the bucket's. Both were prepared.
     #[tactic(auto, unfolding(gcs_meaning::specs::Put::put_state, gcs_meaning::specs::ObjectDeletion::delete_state))]
-    pub fn put<L: Ledger>(&mut self, moment: u64, row: Row, steps: &mut Steps<L>)
+    pub fn put(&mut self, moment: u64, row: Row, live: Option<u64>)
         requires put { IsReadyToPut row.name self.old.rows }
         requires retire { IsReadyToRetire row.name self.old.rows }
         requires limits { AreInLimits self.old.settings }
         requires moment { moment < 2 ^ 62 }
-        requires live { is_live row.kind ≡ true }
-        requires numbered { IsNumbered row }
-        requires above { AllByRecursion (λ other. other.generation < row.generation) self.old.rows.rows }
-        ensures state { state_of self.new ≡ put_state (state_of self.old) moment row }
-        ensures settings { self.new.settings ≡ self.old.settings }
-        ensures cost { steps.new ≡ steps.old + 1 }
+        requires next { IsNext row live (state_of self.old) }
+        ensures { state_of self.new ≡ put_state (state_of self.old) moment row }
     {
-        self.retire_live(moment, &row.name, steps);
+        self.retire_live(moment, &row.name, live);
         self.rows.put(row);
     }
 
-    // Retires the live version of the name, where there is one.
-    fn retire_live<L: Ledger>(&mut self, moment: u64, name: &Name, steps: &mut Steps<L>)
+    // Retires the live version of the name, where there is one, of this generation.
+    fn retire_live(&mut self, moment: u64, name: &Name, live: Option<u64>)
         requires retire { IsReadyToRetire name.now self.old.rows }
         requires limits { AreInLimits self.old.settings }
         requires moment { moment < 2 ^ 62 }
+        requires live { live ≡ option_map (λ row. row.generation) (live_row name.now self.old.rows.rows) }
         ensures state { state_of self.new ≡ delete_state (state_of self.old) moment name.now None }
         ensures none { live_row name.now self.new.rows.rows ≡ None }
-        ensures settings { self.new.settings ≡ self.old.settings }
         ensures put { IsReadyToPut name.now self.old.rows → IsReadyToPut name.now self.new.rows }
-        ensures cost { steps.new ≡ steps.old + 1 }
     {
         self.rows.known();
-        let Some(live) = self.rows.live(name, steps) else {
+        let Some(generation) = live else {
             return;
         };
-        let generation = live.generation;
         self.remove(moment, name, None, generation);
     }
 }

@@ -2,7 +2,7 @@
 ghost use Rattle.std.specs.Prelude.{◌≡◌, ◌<◌, ◌+◌, ◌^◌, [], ◌∷◌, ◌++◌, IfOk, IfErr, OnErr, OnOk, length, vec_capacity, vec_len};
 ghost use Rattle.std.specs.Option.{option_copied};
 ghost use Rattle.gcs_meaning.specs.History.{answer_of, replay, slot_of};
-ghost use Rattle.gcs_meaning.specs.Step.{IsBuilt};
+ghost use Rattle.gcs_meaning.specs.Step.{IsInRange};
 
 use crate::bucket::Bucket;
 use crate::slots::{find_slot, step_slots};
@@ -72,7 +72,7 @@ impl<'c> Shard<'c> {
         moment: u64,
         command: Command,
     ) -> Result<Answer, Command>
-        requires { IsBuilt command }
+        requires { IsInRange command }
         ensures entry { OnOk result (self.new ≡ self.old ++ record { caller = caller; number = number; moment = moment; command = command } ∷ []) }
         ensures few { OnOk result (length self.new < 2 ^ 59) }
         ensures answer { IfOk result (λ answer. answer ≡ answer_of self.old moment command) }

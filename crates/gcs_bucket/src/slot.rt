@@ -1,14 +1,16 @@
 //! The fields of a bucket's slot, and the one call on them.
-ghost use Rattle.std.specs.Prelude.{◌≡◌, ◌≤◌, ◌+◌, IfOk, OnErr, false, vec_len, vec_capacity};
+ghost use Rattle.std.specs.Prelude.{◌≡◌, ◌≤◌, ◌+◌, ℕ, List, IfOk, OnErr, OnOk, false, vec_len, vec_capacity};
 ghost use Rattle.gcs_meaning.specs.Aging.{aged};
 ghost use Rattle.gcs_meaning.specs.Slot.{fresh_slot};
 ghost use Rattle.gcs_meaning.specs.Step.{step, IsOnSlot};
-ghost use Rattle.gcs_bucket.specs.Commands.{is_list};
+ghost use Rattle.gcs_bucket.specs.Alive.{CanPut, CanRetire};
+ghost use Rattle.gcs_bucket.specs.Commands.{is_list, looks_of, IsOfStored, IsOnUpload, IsOnVersion};
 ghost use Rattle.gcs_bucket.specs.Slot.{IsReady, value_of};
 
 use crate::alive::State;
-use crate::graves::{Grave, age_graves};
-use gcs_meaning::{Answer, Command, Steps};
+use crate::graves::{Grave, age_graves, copy_graves};
+use gcs_chunks::Chunks;
+use gcs_meaning::{Answer, Command, Name, Steps};
 use std::alloc::{AllocError, Global};
 use std::sync::ledger::Ledger;
 
@@ -40,18 +42,38 @@ impl Slot {
         }
     }
 
+    /// The same slot, in memory of its own. `Err`: no memory.
+    pub fn copy(&self) -> Result<Slot, AllocError>
+        ensures { IfOk result (λ made. value_of made ≡ value_of self.now) }
+    {
+        let alive = match &self.alive {
+            Some(state) => Some(state.copy()?),
+            None => None,
+        };
+        Ok(Slot {
+            alloc: self.alloc,
+            alive,
+            graves: copy_graves(self.alloc, &self.graves)?,
+            last_moment: self.last_moment,
+            last_object: self.last_object,
+            last_bucket: self.last_bucket,
+            next_upload: self.next_upload,
+        })
+    }
+
     /// One command, whose request took this reading. `Err`: no memory, and nothing is changed.
     pub fn apply<L: Ledger>(
         &mut self,
         reading: u64,
         command: &Command,
+        chunks: &Chunks,
         steps: &mut Steps<L>,
     ) -> Result<Answer, AllocError>
         requires ready { IsReady (value_of self.old) }
-        requires built { IsOnSlot command.now }
+        requires in_range { IsOnSlot command.now }
         ensures done { IfOk result (λ answer. step (value_of self.old) reading command.now ≡ (answer, value_of self.new)) }
         ensures err { OnErr result (value_of self.new ≡ value_of self.old) }
-        ensures cost { is_list command.now ≡ false → steps.new ≤ steps.old + 2 }
+        ensures cost { is_list command.now ≡ false → steps.new ≤ steps.old + looks_of command.now }
     {
         match command {
             Command::BucketInsert { bucket, settings } => self.insert(reading, bucket, settings),
@@ -63,7 +85,33 @@ impl Slot {
                 whole,
             } => self.change_bucket(reading, bucket, pre, change, *whole),
             Command::BucketDelete { bucket: _, pre } => self.delete_bucket(reading, pre),
+            Command::BucketLock { bucket, pre } => self.lock_bucket(reading, bucket, pre),
+            Command::BucketRestore { bucket, generation } => {
+                self.restore_bucket(reading, bucket, *generation)
+            }
             Command::List { bucket: _, query } => self.list(reading, query, steps),
+            Command::Start { .. }
+            | Command::Append { .. }
+            | Command::Finish { .. }
+            | Command::Cancel { .. } => self.apply_to_upload(reading, command, chunks, steps),
+            _ => self.apply_to_version(reading, command, steps),
+        }
+    }
+
+    // One command on a version.
+    fn apply_to_version<L: Ledger>(
+        &mut self,
+        reading: u64,
+        command: &Command,
+        steps: &mut Steps<L>,
+    ) -> Result<Answer, AllocError>
+        requires ready { IsReady (value_of self.old) }
+        requires version { IsOnVersion command.now }
+        ensures done { IfOk result (λ answer. step (value_of self.old) reading command.now ≡ (answer, value_of self.new)) }
+        ensures err { OnErr result (value_of self.new ≡ value_of self.old) }
+        ensures cost { steps.new ≤ steps.old + looks_of command.now }
+    {
+        match command {
             Command::Get {
                 bucket: _,
                 name,
@@ -94,13 +142,86 @@ impl Slot {
                 components,
                 expect,
             } => self.put(reading, name, pre, meta, hashed, *components, expect, steps),
+            _ => self.apply_to_stored(reading, command, steps),
+        }
+    }
+
+    // One command that makes a version of what is stored.
+    fn apply_to_stored<L: Ledger>(
+        &mut self,
+        reading: u64,
+        command: &Command,
+        steps: &mut Steps<L>,
+    ) -> Result<Answer, AllocError>
+        requires ready { IsReady (value_of self.old) }
+        requires stored { IsOfStored command.now }
+        ensures done { IfOk result (λ answer. step (value_of self.old) reading command.now ≡ (answer, value_of self.new)) }
+        ensures err { OnErr result (value_of self.new ≡ value_of self.old) }
+        ensures cost { steps.new ≤ steps.old + looks_of command.now }
+    {
+        match command {
+            Command::Compose {
+                bucket: _,
+                name,
+                pre,
+                meta,
+                parts,
+            } => self.compose(reading, name, pre, meta, parts, steps),
+            Command::Restore {
+                bucket: _,
+                name,
+                generation,
+                pre,
+            } => self.restore(reading, name, *generation, pre, steps),
             _ => unreachable!(),
         }
     }
 
-    /// Takes away what has passed its hard time.
+    // One command on an upload.
+    fn apply_to_upload<L: Ledger>(
+        &mut self,
+        reading: u64,
+        command: &Command,
+        chunks: &Chunks,
+        steps: &mut Steps<L>,
+    ) -> Result<Answer, AllocError>
+        requires ready { IsReady (value_of self.old) }
+        requires upload { IsOnUpload command.now }
+        ensures done { IfOk result (λ answer. step (value_of self.old) reading command.now ≡ (answer, value_of self.new)) }
+        ensures err { OnErr result (value_of self.new ≡ value_of self.old) }
+        ensures cost { steps.new ≤ steps.old + 1 }
+    {
+        match command {
+            Command::Start {
+                bucket: _,
+                name,
+                pre,
+                meta,
+                expect,
+                total,
+            } => self.start(reading, name, pre, meta, expect, *total),
+            Command::Append {
+                bucket: _,
+                upload,
+                offset,
+                total,
+                content,
+            } => self.append(reading, *upload, *offset, *total, content),
+            Command::Finish {
+                bucket: _,
+                upload,
+                hashed,
+            } => self.finish(reading, *upload, hashed, chunks, steps),
+            Command::Cancel { bucket: _, upload } => self.cancel(reading, *upload),
+            _ => unreachable!(),
+        }
+    }
+
+    /// Takes away what has passed its hard time. What was prepared stays prepared.
     pub fn age(&mut self, moment: u64)
         ensures value { value_of self.new ≡ aged (value_of self.old) moment }
+        ensures put { (name : List ℕ) → CanPut name self.old.alive → CanPut name self.new.alive }
+        ensures retire { (name : List ℕ) → CanRetire name self.old.alive → CanRetire name self.new.alive }
         ensures fewer { vec_len self.new.graves ≤ vec_len self.old.graves }
         ensures capacity { vec_capacity self.new.graves ≡ vec_capacity self.old.graves }
     {
@@ -109,5 +230,18 @@ impl Slot {
             state.age(moment);
         }
         age_graves(&mut self.graves, moment);
+    }
+
+    /// Takes the memory of one put and one retirement of that name, in the bucket that is alive. Nothing that is seen
+    /// changes. `Err`: no memory.
+    pub fn prepare(&mut self, name: &Name) -> Result<(), AllocError>
+        ensures value { value_of self.new ≡ value_of self.old }
+        ensures put { OnOk result (CanPut name.now self.new.alive) }
+        ensures retire { OnOk result (CanRetire name.now self.new.alive) }
+    {
+        match &mut self.alive {
+            Some(state) => state.rows.prepare(name),
+            None => Ok(()),
+        }
     }
 }

@@ -3,7 +3,7 @@ ghost use Rattle.std.specs.Prelude.{◌≡◌, ◌≤◌, ◌<◌, IfOk, IfErr, 
 ghost use Rattle.std.specs.Option.{option_copied};
 ghost use Rattle.gcs_meaning.specs.History.{first_step, shard_step, slot_of};
 ghost use Rattle.gcs_meaning.specs.Slot.{fresh_slot};
-ghost use Rattle.gcs_meaning.specs.Step.{step, IsBuilt, IsOnSlot};
+ghost use Rattle.gcs_meaning.specs.Step.{step, IsInRange, IsOnSlot};
 ghost use Rattle.gcs_bucket.specs.Shard.{AreSmall, IsGapAt, IsSlotAt, IsSteppedAt};
 
 use crate::bucket::Bucket;
@@ -38,7 +38,7 @@ pub fn step_slots<L: Ledger>(
     requires parts { blank.parts ≡ L.parts }
     requires some { 0 < blank.parts }
     requires small { AreSmall slots.old.items }
-    requires built { IsBuilt command.now }
+    requires in_range { IsInRange command.now }
     ensures done { IfOk result (λ answer. shard_step slots.old.items moment command.now ≡ (answer, slots.new.items)) }
     ensures err { OnErr result (slots.new.items ≡ slots.old.items) }
 {
@@ -77,7 +77,7 @@ fn step_at<L: Ledger>(
 ) -> Result<Answer, AllocError>
     requires place { place < length slots.old.items }
     requires small { AreSmall slots.old.items }
-    requires built { IsOnSlot command.now }
+    requires in_range { IsOnSlot command.now }
     ensures done { IfOk result (λ answer. IsSteppedAt place moment command.now slots.old.items answer slots.new.items) }
     ensures err { OnErr result (slots.new.items ≡ slots.old.items) }
 {
@@ -96,7 +96,7 @@ fn first_at<L: Ledger>(
     steps: &mut Steps<L>,
 ) -> Result<Answer, AllocError>
     requires gap { IsGapAt name.now slots.old.items place }
-    requires built { IsOnSlot command.now }
+    requires in_range { IsOnSlot command.now }
     ensures done { IfOk result (λ answer. first_step name.now slots.old.items moment command.now ≡ (answer, slots.new.items)) }
     ensures err { OnErr result (slots.new.items ≡ slots.old.items) }
 {
@@ -114,6 +114,7 @@ fn first_at<L: Ledger>(
             insert_slot(slots, place, slot);
             Ok(answer)
         }
+        Command::BucketRestore { .. } => Ok(Answer::Refused(Reason::NoGrave)),
         _ => Ok(Answer::Refused(Reason::NoBucket)),
     }
 }

@@ -6,7 +6,7 @@ use Rattle.gcs_bucket.proofs.get.find_asked.Goals as goal
 
 pub returns-else-soft-clause-found : goal.returns-else-soft-clause-found
 returns-else-soft-clause-found g c =
-    rw c.if-soft.false (c.find_chosen.ensures.found ∙ sym (chosen_row-aged c.args.moment c.args.name.now c.args.generation c.args.rows.now.rows))
+    rw c.if-soft.false (c.chosen.ensures.found ∙ sym (chosen_row-aged c.args.moment c.args.name.now c.args.generation c.args.rows.now.rows))
 
 pub returns-in-None-clause-found : goal.returns-in-None-clause-found
 returns-in-None-clause-found g c = rw (c.if-soft.true, c.in-None.is) (sym (none_asked c.args.name.now (aged_rows c.args.moment c.args.rows.now.rows)))

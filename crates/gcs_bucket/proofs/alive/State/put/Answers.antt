@@ -7,6 +7,6 @@ use Rattle.gcs_bucket.proofs.Removed.{absent_after}
 use Rattle.gcs_bucket.proofs.alive.State.put.Goals as goal
 
 pub put-requires-clause-absent : goal.put-requires-clause-absent
-put-requires-clause-absent g c =
+put-requires-clause-absent c =
     subst (λ (s : State). find (is_version c.args.row.name c.args.row.generation) s.rows ≡ None) (sym c.retire_live.ensures.state)
-    (absent_after (state_of c.args.self.now) c.args.moment c.args.row.generation c.args.row.name c.requires.above)
+    (absent_after (state_of c.args.self.now) c.args.moment c.args.row.generation c.args.row.name c.requires.next.above)

@@ -5,9 +5,9 @@ use Rattle.gcs_bucket.specs.Alive.{state_of}
 use Rattle.gcs_meaning.proofs.Ordered.{same_becomes}
 use Rattle.gcs_bucket.proofs.alive.State.replace.Goals as goal
 
-pub returns-clause-state : goal.returns-clause-state
-returns-clause-state c =
+pub returns : goal.returns
+returns c =
     ap (λ rows. record (state_of c.args.self.now) { rows = rows })
     (c.change.ensures
-    ∙ same_becomes (is_version c.args.name.now c.args.made.shown.generation) (λ row. changed_version c.args.made.meta c.args.made.shown.retention_start c.args.moment row ∷ []) (λ (had : Row). c.args.made.shown ∷ [])
-    c.requires.row c.args.self.now.rows.rows c.requires.found (ap (λ (row : Row). row ∷ []) (sym c.requires.base.shown_is)))
+    ∙ same_becomes (is_version c.args.name.now c.args.shown.now.generation) (λ row. changed_version c.args.meta c.args.shown.now.retention_start c.args.moment row ∷ []) (λ (had : Row). c.args.shown.now ∷ [])
+    c.requires.row c.args.self.now.rows.rows c.requires.found (ap (λ (row : Row). row ∷ []) (sym c.requires.shown_is)))

@@ -1,4 +1,5 @@
-use Rattle.gcs_bucket.proofs.Listed.{built_of}
+use Rattle.gcs_bucket.proofs.Laws.{covered_after, rises_after}
+use Rattle.gcs_bucket.proofs.Listed.{in_range_of}
 use Rattle.gcs_bucket.proofs.Sound.{ready_when, sound_after}
 use Rattle.gcs_bucket.proofs.bucket.Bucket.apply.Goals as goal
 
@@ -7,9 +8,15 @@ apply-requires-clause-ready g c = ready_when _ c.self.invariant (rw (← c.self.
 
 pub invariant_of-self : goal.invariant_of-self
 invariant_of-self g c =
-    sound_after c.apply.result _ _ _ _ (built_of _ c.requires.built) c.self.invariant c.apply.ensures.done c.apply.ensures.err
+    sound_after c.apply.result _ _ _ _ (in_range_of _ c.requires.in_range) c.self.invariant c.apply.ensures.done c.apply.ensures.err
 
 pub returns-clause-fit : goal.returns-clause-fit
 returns-clause-fit g c =
-    let sound = sound_after c.apply.result _ _ _ _ (built_of _ c.requires.built) c.self.invariant c.apply.ensures.done c.apply.ensures.err in
+    let sound = sound_after c.apply.result _ _ _ _ (in_range_of _ c.requires.in_range) c.self.invariant c.apply.ensures.done c.apply.ensures.err in
     sound.fit
+
+pub returns-clause-covered : goal.returns-clause-covered
+returns-clause-covered g c = rw (← c.self.view_is) (covered_after c.apply.result _ _ _ _ c.self.invariant.fit c.apply.ensures.done c.apply.ensures.err)
+
+pub returns-clause-rises : goal.returns-clause-rises
+returns-clause-rises g c = rw (← c.self.view_is) (rises_after c.apply.result _ _ _ _ c.apply.ensures.done c.apply.ensures.err)

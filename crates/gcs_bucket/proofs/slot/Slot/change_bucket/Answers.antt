@@ -1,23 +1,22 @@
-use Rattle.std.proofs.Common.{ap}
-use Rattle.gcs_bucket.specs.Alive.{alive_of}
+use Rattle.gcs_bucket.specs.BucketChange.{decided_settings}
 use Rattle.gcs_bucket.specs.Slot.{value_of}
-use Rattle.gcs_bucket.proofs.Commands.{bucket_change_dead, bucket_change_refused, bucket_change_done}
+use Rattle.gcs_bucket.proofs.Commands.{decided_made, decided_refused}
+use Rattle.gcs_bucket.proofs.Sound.{ready_aged, soon}
 use Rattle.gcs_bucket.proofs.slot.Slot.change_bucket.Goals as goal
+use Rattle.std.proofs.Common.{refl}
 
-pub returns-in_default-clause-done : goal.returns-in_default-clause-done
-returns-in_default-clause-done c =
-    rw (c.age.ensures.value, ← c.effective-moment.ensures)
-    (bucket_change_dead (value_of c.args.self.now) _ _ _ _ _ (ap alive_of c.in_default.is))
+pub set-requires : goal.set-requires
+set-requires c = record {
+  ready = ready_aged (value_of c.args.self.now) _ c.effective-moment.result c.age.ensures.value
+      (soon (value_of c.args.self.now) _ c.args.reading c.requires.ready c.effective-moment.ensures) c.requires.ready;
+}
 
-pub returns-in-Some-change_refusal-clause-done : goal.returns-in-Some-change_refusal-clause-done
-returns-in-Some-change_refusal-clause-done c =
+pub returns-in-Ok-clause-done : goal.returns-in-Ok-clause-done
+returns-in-Ok-clause-done c =
     rw (← c.effective-moment.ensures)
-    (bucket_change_refused _ _ _ c.args.self.now.last_moment _ _ _ _ _ _ _ _ _ _ _
-    (ap alive_of c.in-Some.is) c.age-2.ensures.state c.age_graves.ensures.items c.in-Some-change_refusal.ensures)
+    (decided_made (λ d slot. decided_settings d c.effective-moment.result slot) _ _ c.in-Ok.made _ _ _ _ c.in_ok-decision.ensures c.in-Ok.is c.age.ensures.value c.set.ensures)
 
-pub returns-clause-done : goal.returns-clause-done
-returns-clause-done c =
+pub returns-in-Err-clause-done : goal.returns-in-Err-clause-done
+returns-in-Err-clause-done c =
     rw (← c.effective-moment.ensures)
-    (bucket_change_done _ _ _ c.args.self.now.last_moment _ _ _ _ _ _ _ _ _ _ _ _ _
-    (ap alive_of c.in-Some.is) c.age-2.ensures.state c.age_graves.ensures.items c.in_default-change_refusal.ensures
-    c.in_ok-made.ensures.settings_is c.in_ok-made.ensures.shown_is c.set.ensures)
+    (decided_refused (λ d slot. decided_settings d c.effective-moment.result slot) _ _ c.in-Err.reason _ _ c.in_ok-decision.ensures c.in-Err.is c.age.ensures.value refl)

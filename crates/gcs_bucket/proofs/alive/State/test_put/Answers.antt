@@ -2,7 +2,7 @@ use Rattle.std.proofs.Common.{sym, subst}
 use Rattle.std.specs.Option.{IfSome}
 use Rattle.gcs_bucket.specs.Alive.{IsEarly}
 use Rattle.gcs_bucket.proofs.Sound.{live_early}
-use Rattle.gcs_bucket.proofs.alive.State.put_refusal.Goals as goal
+use Rattle.gcs_bucket.proofs.alive.State.test_put.Goals as goal
 
 pub kept_live-kept-requires-clause-early : goal.kept_live-kept-requires-clause-early
 kept_live-kept-requires-clause-early g c =
