@@ -5,8 +5,10 @@ use Rattle.gcs_json.specs.Fields.{and_then}
 use Rattle.gcs_json.specs.Order.{fault_of, or_next}
 use Rattle.gcs_json.specs.BucketLaws.{FirstFaultCounts}
 use Rattle.gcs_json.specs.ObjectLaws.{FirstObjectFaultCounts}
+use Rattle.gcs_json.specs.ComposeLaws.{FirstComposeFaultCounts}
 use Rattle.gcs_json.specs.Bucket as bucket
 use Rattle.gcs_json.specs.Object as object
+use Rattle.gcs_json.specs.Compose as compose
 use Rattle.gcs_meaning.specs.declared.reason.Key.TheVariants as key
 
 -- the fault of a reading comes before those of the rest
@@ -46,5 +48,13 @@ first_object_fault_counts way removes d = (
       first_then (object.name_in way d) _ _ (λ _.
       first_then (object.storage_class_in way d) _ _ (λ _.
       first_then (object.temporary_hold_in removes d) _ _ (λ _. refl))))))))))))),
+  refl,
+)
+
+pub first_compose_fault_counts : FirstComposeFaultCounts
+unfolding compose.compose_in
+first_compose_fault_counts d = (
+  first_then (compose.destination_in d) _ _ (λ _.
+      first_then (compose.sources_in d) _ _ (λ _. refl)),
   refl,
 )

@@ -4,8 +4,10 @@ use Rattle.gcs_json.specs.declared.fault.BodyFault.{BodyFault}
 use Rattle.gcs_json.specs.Fields.{and_then}
 use Rattle.gcs_json.specs.BucketLaws.{IsBucketBody, EachFieldCounts}
 use Rattle.gcs_json.specs.ObjectLaws.{IsObjectBody, EachObjectFieldCounts}
+use Rattle.gcs_json.specs.ComposeLaws.{IsComposeBody, EachComposeFieldCounts}
 use Rattle.gcs_json.specs.Bucket as bucket
 use Rattle.gcs_json.specs.Object as object
+use Rattle.gcs_json.specs.Compose as compose
 use Rattle.gcs_meaning.specs.declared.reason.Key.TheVariants as key
 
 -- what comes of two readings is what the second makes of the first's value
@@ -103,4 +105,16 @@ each_object_field_counts way removes d read = (
       ok_then (object.name_in way d) _ _ _ is.name (
       ok_then (object.storage_class_in way d) _ _ _ is.storage_class (
       ok_then (object.temporary_hold_in removes d) _ _ _ is.temporary_hold refl)))))))))))),
+)
+
+pub each_compose_field_counts : EachComposeFieldCounts
+unfolding compose.compose_in
+each_compose_field_counts d read = (
+  λ h.
+      let destination = and_then-ok (compose.destination_in d) _ read h in
+      let parts = and_then-ok (compose.sources_in d) _ read destination.2 in
+      subst (IsComposeBody d) (same_ok _ read parts.2) record { destination = destination.1; parts = parts.1 },
+  λ is.
+      ok_then (compose.destination_in d) _ _ _ is.destination (
+      ok_then (compose.sources_in d) _ _ _ is.parts refl),
 )

@@ -1,16 +1,12 @@
 -- The body of a bucket: its fields in byte order of their names (Cloud Storage JSON API, "Buckets").
-use Rattle.std.specs.Prelude.{◌≡◌, ℕ, ◌==◌, List, [], ◌∷◌, Bool, true, false, Option, Some, None, Result, Ok, Err, if◌then◌else◌, codes}
+use Rattle.std.specs.Prelude.{ℕ, ◌==◌, List, Bool, true, false, Option, Some, None, Result, Ok, if◌then◌else◌, codes}
 use Rattle.serde_json.specs.Data.{Data}
 use Rattle.gcs_names.specs.Name.{is_bucket_name}
-use Rattle.gcs_meaning.specs.declared.changes.Set.TheVariants.{Keep}
-use Rattle.gcs_meaning.specs.declared.changes.SettingsChange.{SettingsChange}
-use Rattle.gcs_meaning.specs.declared.reason.Key.{Key}
 use Rattle.gcs_meaning.specs.declared.reason.Key.TheVariants as key
 use Rattle.gcs_json.specs.declared.fault.BodyFault.{BodyFault}
-use Rattle.gcs_json.specs.declared.fault.BodyFault.TheVariants.{NotBuilt}
 use Rattle.gcs_json.specs.declared.bucket.BucketBody.{BucketBody}
 use Rattle.gcs_json.specs.declared.words.Bytes.TheVariants.{Class, Place}
-use Rattle.gcs_json.specs.Fields.{Changed, body_of, names_any, field_of, given_of, given_if, needed, and_then}
+use Rattle.gcs_json.specs.Fields.{Changed, body_of, field_of, given_of, given_if, needed, and_then}
 use Rattle.gcs_json.specs.Kinds.{flag, inside, text_where, compact_within, number_within}
 use Rattle.gcs_json.specs.Pairs.{Pair, pairs_within}
 use Rattle.gcs_json.specs.Words.{is_word}
@@ -79,34 +75,6 @@ bucket_in inserts removes d =
       };
     })))))))))
 
--- the fields that are not built
-abbrev pub unbuilt_fields : List Key
-unbuilt_fields =
-    key.DefaultEventBasedHold
-    ∷ key.RetentionPolicy
-    ∷ key.SoftDeletePolicy
-    ∷ []
-
--- the same, where the object names none of those
-unfoldable pub built_bucket : Bool → Bool → Data → Result BucketBody BodyFault
-built_bucket inserts removes d = if names_any unbuilt_fields d then Err NotBuilt else bucket_in inserts removes d
-
 -- what the body says on a row of the table of paths: 1 inserts, 4 patches, 5 replaces
 unfoldable pub bucket_of : ℕ → List ℕ → Result BucketBody BodyFault
-bucket_of row text = and_then (body_of text) (built_bucket (row == 1) (row == 4))
-
--- the change keeps what the field of that name sets
-abbrev pub IsKept : SettingsChange → Key → Type 0
-IsKept change key.DefaultEventBasedHold = change.default_event_hold ≡ Keep
-IsKept change key.Labels = change.labels ≡ Keep
-IsKept change key.Lifecycle = change.lifecycle ≡ Keep
-IsKept change key.RetentionPolicy = change.retention_period ≡ Keep
-IsKept change key.SoftDeletePolicy = change.soft_seconds ≡ Keep
-IsKept change key.StorageClass = change.storage_class ≡ Keep
-IsKept change key.Versioning = change.versioned ≡ Keep
-IsKept change _ = Unit {0}
-
--- and so of each of these fields
-abbrev pub AreKept : SettingsChange → List Key → Type 0
-AreKept change [] = Unit {0}
-AreKept change (key ∷ keys) = IsKept change key × AreKept change keys
+bucket_of row text = and_then (body_of text) (bucket_in (row == 1) (row == 4))

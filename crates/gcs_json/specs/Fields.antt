@@ -1,5 +1,5 @@
 -- The object that a body is (RFC 8259), and what it says of one field.
-use Rattle.std.specs.Prelude.{ℕ, ◌==◌, List, [], ◌∷◌, length, Bool, true, false, ◌||◌, Option, Some, None, option_map, is_some, Result, Ok, Err, if◌then◌else◌}
+use Rattle.std.specs.Prelude.{ℕ, ◌==◌, List, [], length, Bool, true, false, Option, Some, None, option_map, Result, Ok, Err, if◌then◌else◌}
 use Rattle.std.specs.Str.{is_utf8}
 use Rattle.serde_json.specs.Data.{Data, no_members, null, string, object}
 use Rattle.serde_json.specs.Read.{read}
@@ -21,11 +21,6 @@ unfoldable pub body_of : List ℕ → Result Data BodyFault
 body_of text =
     if length text == 0 then Ok (object no_members)
     else object_in (if is_utf8 text then read text else None)
-
--- the object has a field of one of these names
-abbrev pub names_any : List Key → Data → Bool
-names_any [] body = false
-names_any (key ∷ keys) body = is_some (get (key_name key) body) || names_any keys body
 
 -- null or an empty text
 abbrev pub is_empty : Data → Bool

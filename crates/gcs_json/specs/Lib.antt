@@ -4,6 +4,9 @@ pub mod Pairs
 pub mod Kinds
 pub mod Bucket
 pub mod Object
+pub mod Sources
+pub mod Compose
 pub mod Order
 pub mod BucketLaws
 pub mod ObjectLaws
+pub mod ComposeLaws

@@ -1,27 +1,25 @@
 -- The body of an object: its fields in byte order of their names (Cloud Storage JSON API, "Objects").
-use Rattle.std.specs.Prelude.{◌≡◌, ℕ, ◌==◌, ◌||◌, List, [], ◌∷◌, Bool, Option, Some, None, Result, Ok, Err, if◌then◌else◌}
+use Rattle.std.specs.Prelude.{ℕ, ◌==◌, ◌||◌, List, Bool, Option, Some, None, Result, Ok, if◌then◌else◌}
 use Rattle.serde_json.specs.Data.{Data}
-use Rattle.gcs_meaning.specs.declared.changes.MetaChange.{MetaChange}
-use Rattle.gcs_meaning.specs.declared.changes.Set.TheVariants.{Keep}
 use Rattle.gcs_meaning.specs.declared.reason.Key.{Key}
 use Rattle.gcs_meaning.specs.declared.reason.Key.TheVariants as key
+use Rattle.gcs_meaning.specs.ObjectChange.{largest_custom}
 use Rattle.gcs_json.specs.declared.fault.BodyFault.{BodyFault}
-use Rattle.gcs_json.specs.declared.fault.BodyFault.TheVariants.{NotBuilt}
 use Rattle.gcs_json.specs.declared.object.ObjectBody.{ObjectBody}
 use Rattle.gcs_json.specs.declared.object.Way.{Way}
 use Rattle.gcs_json.specs.declared.words.Bytes.TheVariants.{Class, Line}
-use Rattle.gcs_json.specs.Fields.{Changed, body_of, names_any, field_of, given_if, and_then}
+use Rattle.gcs_json.specs.Fields.{Changed, body_of, field_of, given_if, and_then}
 use Rattle.gcs_json.specs.Kinds.{any_text, crc, flag, md5, moment, text_where}
 use Rattle.gcs_json.specs.Pairs.{Pair, pairs_within}
 use Rattle.gcs_json.specs.Words.{is_word}
 
--- rows 15 (rewrite), 16 (copy) and 18 (upload) make a version
+-- rows 14 (compose), 15 (rewrite), 16 (copy) and 18 (upload) make a version
 abbrev pub makes : ℕ → Bool
-makes row = (row == 15 || row == 16) || row == 18
+makes row = ((row == 14 || row == 15) || row == 16) || row == 18
 
--- uploads alone read digests and the name; the custom metadata of a new version have at most 8,192 bytes
+-- uploads alone read digests and the name; the custom metadata of a new version are bounded
 unfoldable pub way_of : ℕ → Way
-way_of row = record { uploads = row == 18; makes = makes row; most = if makes row then Some 8192 else None }
+way_of row = record { uploads = row == 18; makes = makes row; most = if makes row then Some largest_custom else None }
 
 -- a text of a reply's head: at most 1,024 bytes, none of which is a control character
 abbrev pub line_in : Key → Bool → Data → Changed (List ℕ)
@@ -92,35 +90,6 @@ object_in way removes d =
       expect = record { crc = crc_given; md5 = md5_given };
     })))))))))))))
 
--- the fields that are not built
-abbrev pub unbuilt_fields : List Key
-unbuilt_fields =
-    key.EventBasedHold
-    ∷ key.TemporaryHold
-    ∷ []
-
--- the same, where the object names none of those
-unfoldable pub built_object : Way → Bool → Data → Result ObjectBody BodyFault
-built_object way removes d = if names_any unbuilt_fields d then Err NotBuilt else object_in way removes d
-
 -- what the body says on a row of the table of paths: 11 patches, 12 replaces, and those that make a version
 unfoldable pub object_of : ℕ → List ℕ → Result ObjectBody BodyFault
-object_of row text = and_then (body_of text) (built_object (way_of row) (row == 11))
-
--- the change keeps what the field of that name sets
-abbrev pub IsKept : MetaChange → Key → Type 0
-IsKept change key.CacheControl = change.cache_control ≡ Keep
-IsKept change key.ContentDisposition = change.content_disposition ≡ Keep
-IsKept change key.ContentEncoding = change.content_encoding ≡ Keep
-IsKept change key.ContentLanguage = change.content_language ≡ Keep
-IsKept change key.ContentType = change.content_type ≡ Keep
-IsKept change key.CustomTime = change.custom_time ≡ Keep
-IsKept change key.EventBasedHold = change.event_hold ≡ Keep
-IsKept change key.Metadata = change.custom ≡ Keep
-IsKept change key.TemporaryHold = change.temporary_hold ≡ Keep
-IsKept change _ = Unit {0}
-
--- and so of each of these fields
-abbrev pub AreKept : MetaChange → List Key → Type 0
-AreKept change [] = Unit {0}
-AreKept change (key ∷ keys) = IsKept change key × AreKept change keys
+object_of row text = and_then (body_of text) (object_in (way_of row) (row == 11))

@@ -3,10 +3,10 @@ ghost use Rattle.std.specs.Prelude.{◌≡◌, ◌≢◌, IfOk, IfErr, IsSome, O
 ghost use Rattle.serde_json.specs.View.{view};
 ghost use Rattle.gcs_meaning.specs.BucketChange.{AreSetInLimits};
 ghost use Rattle.gcs_json.specs.declared.fault.BodyFault.TheVariants.{NoMemory};
-ghost use Rattle.gcs_json.specs.Bucket.{bucket_in, bucket_of, built_bucket, name_in, unbuilt_fields, AreKept};
+ghost use Rattle.gcs_json.specs.Bucket.{bucket_in, bucket_of, name_in};
 
 use crate::fault::BodyFault;
-use crate::fields::{Fields, field, given, given_if, names_any, read_body};
+use crate::fields::{Fields, field, given, given_if, read_body};
 use crate::kind::{Flag, Inside};
 use crate::lifecycle::Compact;
 use crate::numbers::Number;
@@ -21,13 +21,6 @@ const INSERT: u32 = 1;
 
 // The row of a bucket's PATCH.
 const PATCH: u32 = 4;
-
-// The fields that are not built.
-const UNBUILT: [Key; 3] = [
-    Key::DefaultEventBasedHold,
-    Key::RetentionPolicy,
-    Key::SoftDeletePolicy,
-];
 
 // In bytes.
 const LONGEST_LABELS: usize = 8192;
@@ -85,13 +78,11 @@ impl Copied for BucketBody {
 pub fn read_bucket_body(alloc: Global, row: u32, body: &[u8]) -> Result<BucketBody, BodyFault>
     ensures body { IfOk result (λ read. bucket_of row body.now ≡ Ok read) }
     ensures fault { IfErr result (λ fault. fault ≢ NoMemory → bucket_of row body.now ≡ Err fault) }
-
     ensures limits { IfOk result (λ read. AreSetInLimits read.change) }
-    ensures kept { IfOk result (λ read. AreKept read.change unbuilt_fields) }
     ensures named { row ≡ 1 → IfOk result (λ read. IsSome read.name) }
 {
     let body = read_body(alloc, body)?;
-    built_bucket(
+    bucket(
         row == INSERT,
         &Fields {
             alloc,
@@ -99,18 +90,6 @@ pub fn read_bucket_body(alloc: Global, row: u32, body: &[u8]) -> Result<BucketBo
             body: &body,
         },
     )
-}
-
-// The fields, if the body names none that is not built.
-#[tactic(auto, unfolding(crate::specs::Bucket::built_bucket))]
-fn built_bucket(inserts: bool, fields: &Fields<'_>) -> Result<BucketBody, BodyFault>
-    ensures body { IfOk result (λ read. built_bucket inserts fields.now.removes (view fields.now.body.now) ≡ Ok read) }
-    ensures fault { IfErr result (λ fault. fault ≢ NoMemory → built_bucket inserts fields.now.removes (view fields.now.body.now) ≡ Err fault) }
-{
-    if names_any(&UNBUILT, fields.body) {
-        return Err(BodyFault::NotBuilt);
-    }
-    bucket(inserts, fields)
 }
 
 /// The fields in byte order of their names.

@@ -10,8 +10,6 @@ use std::alloc::{AllocError, AllocFailed};
 pub enum BodyFault {
     /// The text has no reading, or is no object.
     NotJson,
-    /// The object has a field that is not built, whatever its value.
-    NotBuilt,
     /// The first field of a wrong kind, in byte order of the names.
     BadField { name: Key },
     /// A field that the request needs and the body lacks.

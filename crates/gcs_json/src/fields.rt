@@ -2,7 +2,7 @@
 ghost use Rattle.std.specs.Prelude.{◌≡◌, ◌≢◌, IfOk, IfErr, Ok, Err, Some, None};
 ghost use Rattle.serde_json.specs.View.{view};
 ghost use Rattle.gcs_json.specs.declared.fault.BodyFault.TheVariants.{BadField, NoMemory};
-ghost use Rattle.gcs_json.specs.Fields.{body_of, is_empty, names_any, field_of, given_of, given_if};
+ghost use Rattle.gcs_json.specs.Fields.{body_of, is_empty, field_of, given_of, given_if};
 
 use crate::fault::BodyFault;
 use crate::kind::Kind;
@@ -43,18 +43,6 @@ pub fn read_body(alloc: Global, text: &[u8]) -> Result<Value, BodyFault>
             }
         }
     }
-}
-
-/// Whether the body has a field of one of these names.
-pub fn names_any(keys: &[Key], body: &Value) -> bool
-    ensures { result ≡ names_any keys.now (view body.now) }
-{
-    for key in keys {
-        if body.get(key_text(*key)).is_some() {
-            return true;
-        }
-    }
-    false
 }
 
 /// What the body does to a field of this kind.
@@ -130,8 +118,8 @@ fn read_as<T: Drop, K: Kind<T>>(
     }
 }
 
-// Whether a value is null or an empty text.
-fn is_empty(value: &Value) -> bool
+/// Whether a value is null or an empty text.
+pub fn is_empty(value: &Value) -> bool
     ensures { result ≡ is_empty (view value.now) }
 {
     match value {

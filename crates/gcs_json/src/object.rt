@@ -2,28 +2,26 @@
 ghost use Rattle.std.specs.Prelude.{◌≡◌, ◌≢◌, IfOk, IfErr, Ok, Err, Some, None, if◌then◌else◌};
 ghost use Rattle.serde_json.specs.View.{view};
 ghost use Rattle.gcs_json.specs.declared.fault.BodyFault.TheVariants.{NoMemory};
-ghost use Rattle.gcs_json.specs.Object.{built_object, object_in, object_of, unbuilt_fields, way_of, AreKept};
+ghost use Rattle.gcs_meaning.specs.ObjectChange.{largest_custom};
+ghost use Rattle.gcs_json.specs.Object.{object_in, object_of, way_of};
 
 use crate::fault::BodyFault;
-use crate::fields::{Fields, field, given_if, names_any, read_body};
+use crate::fields::{Fields, field, given_if, read_body};
 use crate::kind::Flag;
 use crate::pairs::Pairs;
 use crate::texts::{AnyText, CrcText, Md5Text, TimeText};
 use crate::words::{CLASS, LINE};
-use gcs_meaning::{Copied, Expect, Key, MetaChange, Text};
+use gcs_meaning::{Copied, Expect, Key, LARGEST_CUSTOM, MetaChange, Text};
 use std::alloc::{AllocError, Global};
 
 // The row of an object's PATCH.
 const PATCH: u32 = 11;
 
+/// The row of a compose.
+pub const COMPOSE: u32 = 14;
+
 // The row of an upload.
 const UPLOAD: u32 = 18;
-
-// The fields that are not built.
-const UNBUILT: [Key; 2] = [Key::EventBasedHold, Key::TemporaryHold];
-
-// In bytes.
-const LONGEST_METADATA: usize = 8192;
 
 /// What the body of an object says.
 #[derive(Drop)]
@@ -54,18 +52,17 @@ pub struct Way {
     pub most: Option<usize>,
 }
 
-/// Reads the body of an object on a row of the table of paths: 11 patches an object, 12 replaces its metadata; 15, 16 and 18
-/// (rewrite, copy and upload) make a version. `custom_time` is in microseconds since 1970.
+/// Reads the body of an object on a row of the table of paths: 11 patches an object, 12 replaces its metadata; 14, 15, 16
+/// and 18 (compose, rewrite, copy and upload) make a version. `custom_time` is in microseconds since 1970.
 ///
 /// Source: Cloud Storage JSON API, "Objects".
 #[tactic(auto, unfolding(crate::specs::Object::object_of))]
 pub fn read_object_body(alloc: Global, row: u32, body: &[u8]) -> Result<ObjectBody, BodyFault>
     ensures body { IfOk result (λ read. object_of row body.now ≡ Ok read) }
     ensures fault { IfErr result (λ fault. fault ≢ NoMemory → object_of row body.now ≡ Err fault) }
-    ensures kept { IfOk result (λ read. AreKept read.change unbuilt_fields) }
 {
     let body = read_body(alloc, body)?;
-    built_object(
+    object(
         way_of(row),
         &Fields {
             alloc,
@@ -73,18 +70,6 @@ pub fn read_object_body(alloc: Global, row: u32, body: &[u8]) -> Result<ObjectBo
             body: &body,
         },
     )
-}
-
-// The fields, if the body names none that is not built.
-#[tactic(auto, unfolding(crate::specs::Object::built_object))]
-fn built_object(way: Way, fields: &Fields<'_>) -> Result<ObjectBody, BodyFault>
-    ensures body { IfOk result (λ read. built_object way fields.now.removes (view fields.now.body.now) ≡ Ok read) }
-    ensures fault { IfErr result (λ fault. fault ≢ NoMemory → built_object way fields.now.removes (view fields.now.body.now) ≡ Err fault) }
-{
-    if names_any(&UNBUILT, fields.body) {
-        return Err(BodyFault::NotBuilt);
-    }
-    object(way, fields)
 }
 
 /// The fields in byte order of their names.
@@ -138,7 +123,7 @@ pub fn object(way: Way, fields: &Fields<'_>) -> Result<ObjectBody, BodyFault>
 pub fn way_of(row: u32) -> Way
     ensures { result ≡ way_of row }
 {
-    let makes = matches!(row, 15 | 16 | UPLOAD);
+    let makes = matches!(row, COMPOSE | 15 | 16 | UPLOAD);
     Way {
         uploads: row == UPLOAD,
         makes,
@@ -147,7 +132,11 @@ pub fn way_of(row: u32) -> Way
 }
 
 fn longest(makes: bool) -> Option<usize>
-    ensures { result ≡ if makes then Some 8192 else None }
+    ensures { result ≡ if makes then Some largest_custom else None }
 {
-    if makes { Some(LONGEST_METADATA) } else { None }
+    if makes {
+        Some(LARGEST_CUSTOM as usize)
+    } else {
+        None
+    }
 }

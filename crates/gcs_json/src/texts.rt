@@ -1,12 +1,13 @@
 //! Any text, and the texts of names, digests and moments, which other crates read.
 ghost use Rattle.serde_json.specs.View.{view};
 ghost use Rattle.gcs_names.specs.Name.{is_bucket_name};
+ghost use Rattle.gcs_names.specs.ObjectTest.{is_object_name};
 ghost use Rattle.gcs_json.specs.Kinds.{any_text, crc, md5, moment, text_where};
 
 use crate::kind::Kind;
 use gcs_crc::{BadDigest, read_crc, read_md5};
-use gcs_meaning::{BucketName, Text};
-use gcs_names::{BadName, bucket_name};
+use gcs_meaning::{BucketName, Name, Text};
+use gcs_names::{BadName, bucket_name, object_name};
 use gcs_time::read_time;
 use serde_json::Value;
 use std::alloc::{AllocError, Global};
@@ -38,6 +39,25 @@ impl Kind<BucketName> for NameOfBucket {
             return Ok(None);
         };
         match bucket_name(alloc, text.as_bytes()) {
+            Ok(name) => Ok(Some(name)),
+            Err(BadName::Form) => Ok(None),
+            Err(BadName::NoMemory) => Err(AllocError),
+        }
+    }
+}
+
+/// A name that an object may have.
+#[derive(Drop)]
+pub struct NameOfObject;
+
+impl Kind<Name> for NameOfObject {
+    ghost reads = { λ _. text_where is_object_name };
+
+    fn read(&self, alloc: Global, value: &Value) -> Result<Option<Name>, AllocError> {
+        let Some(text) = value.as_str() else {
+            return Ok(None);
+        };
+        match object_name(alloc, text.as_bytes()) {
             Ok(name) => Ok(Some(name)),
             Err(BadName::Form) => Ok(None),
             Err(BadName::NoMemory) => Err(AllocError),
