@@ -1,2 +1,4 @@
 pub mod Times
 pub mod Whole
+pub mod Written
+pub mod Tokens

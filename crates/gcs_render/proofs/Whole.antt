@@ -4,7 +4,6 @@ use Rattle.std.proofs.lemmas.Bool.{or_parts}
 use Rattle.std.specs.Cmp.Lexicographic.{slice_cmp}
 use Rattle.std.specs.Option.{ForSome}
 use Rattle.std.specs.Ordering.{match_ordering}
-use Rattle.gcs_meaning.specs.declared.settings.Meta.{Meta}
 use Rattle.gcs_meaning.specs.declared.settings.Retention.{Retention}
 use Rattle.gcs_meaning.specs.declared.settings.Settings.{Settings}
 use Rattle.gcs_meaning.specs.declared.listing.Page.{Page}
@@ -19,7 +18,7 @@ use Rattle.serde_json.specs.Written.{has_float, items_have_float, members_have_f
 use Rattle.gcs_render.specs.Fields.{Field, put_where, with_fields, object_of, text_if, count_if, where_true, time_if, with_pairs, pairs_if, array_if}
 use Rattle.gcs_render.specs.Lists.{object_list, list_fields, list_data, bucket_list, buckets_fields, buckets_data, rewrite_fields, rewrite_data, where_done}
 use Rattle.gcs_meaning.specs.Tokens.{page_token}
-use Rattle.gcs_render.specs.Resources.{noncurrent_since, soft_since, hard_time, retained_until, version_fields, content_fields, meta_fields, state_fields, object_fields, object_data, retention_if, versioning_if, if_whole, whole_value, settings_fields, bucket_fields, bucket_data}
+use Rattle.gcs_render.specs.Resources.{noncurrent_since, soft_since, hard_time, retention_end, object_from_bucket, object_from_crc, object_from_kind, object_from_soft, object_fields, object_data, retention_if, versioning_if, if_whole, whole_value, bucket_fields, bucket_data}
 
 -- ---- members
 
@@ -116,44 +115,36 @@ some-whole (Some value) whole = whole value refl
 
 -- ---- objects, by the groups of their fields
 
-version_fields-whole : (bucket : List ℕ) (row : Row) → fields_have_float (version_fields bucket row) ≡ false
-version_fields-whole bucket row = rw (count_if-whole row.components)
-
-content_fields-whole : (row : Row) (settings : Settings) → fields_have_float (content_fields row settings) ≡ false
-content_fields-whole row settings = rw (text_if-whole _)
-
-meta_fields-whole : (meta : Meta) → fields_have_float (meta_fields meta) ≡ false
-meta_fields-whole meta =
+from_bucket-whole : (bucket : List ℕ) (row : Row) → fields_have_float (object_from_bucket bucket row) ≡ false
+from_bucket-whole bucket row =
     rw (
-      text_if-whole meta.cache_control,
-      text_if-whole meta.content_disposition,
-      text_if-whole meta.content_encoding,
-      text_if-whole meta.content_language,
-      time_if-whole meta.custom_time,
-      pairs_if-whole meta.custom,
+      text_if-whole row.meta.cache_control,
+      count_if-whole row.components,
+      text_if-whole row.meta.content_disposition,
+      text_if-whole row.meta.content_encoding,
+      text_if-whole row.meta.content_language,
     )
 
-state_fields-whole : (row : Row) (settings : Settings) → fields_have_float (state_fields row settings) ≡ false
-state_fields-whole row settings =
-    rw (
-      where_true-whole row.meta.temporary_hold,
-      where_true-whole _,
-      time_if-whole (noncurrent_since row.kind),
-      time_if-whole (soft_since row.kind),
-      time_if-whole (hard_time row.kind),
-      time_if-whole (retained_until row settings),
-    )
+from_crc-whole : (bucket : List ℕ) (row : Row) → fields_have_float (object_from_crc bucket row) ≡ false
+from_crc-whole bucket row = rw (time_if-whole row.meta.custom_time, where_true-whole _, time_if-whole (hard_time row.kind))
+
+from_kind-whole : (row : Row) (settings : Settings) → fields_have_float (object_from_kind row settings) ≡ false
+from_kind-whole row settings = rw (text_if-whole _, pairs_if-whole row.meta.custom, time_if-whole (retention_end row settings))
+
+from_soft-whole : (row : Row) (settings : Settings) → fields_have_float (object_from_soft row settings) ≡ false
+from_soft-whole row settings =
+    rw (time_if-whole (soft_since row.kind), where_true-whole row.meta.temporary_hold, time_if-whole (noncurrent_since row.kind))
 
 -- the resource of an object has no float
 pub object_data-whole : (bucket : List ℕ) (row : Row) (settings : Settings) → has_float (object_data bucket row settings) ≡ false
 unfolding object_data
 object_data-whole bucket row settings =
-    let told = version_fields bucket row ++ content_fields row settings in
-    let told_whole = fields_have_float-append (version_fields bucket row) (content_fields row settings) (version_fields-whole bucket row) (content_fields-whole row settings) in
-    let said = told ++ meta_fields row.meta in
-    let said_whole = fields_have_float-append told (meta_fields row.meta) told_whole (meta_fields-whole row.meta) in
-    let shown_whole = fields_have_float-append said (state_fields row settings) said_whole (state_fields-whole row settings) in
-    object_of-whole (object_fields bucket row settings) shown_whole
+    let first = object_from_bucket bucket row ++ object_from_crc bucket row in
+    let first_whole = fields_have_float-append (object_from_bucket bucket row) (object_from_crc bucket row) (from_bucket-whole bucket row) (from_crc-whole bucket row) in
+    let more = first ++ object_from_kind row settings in
+    let more_whole = fields_have_float-append first (object_from_kind row settings) first_whole (from_kind-whole row settings) in
+    let all_whole = fields_have_float-append more (object_from_soft row settings) more_whole (from_soft-whole row settings) in
+    object_of-whole (object_fields bucket row settings) all_whole
 
 -- ---- buckets
 
@@ -169,14 +160,20 @@ lifecycle-whole : (text : Option (List ℕ)) → value_has_float (option_and_the
 lifecycle-whole None = refl
 lifecycle-whole (Some text) = if_whole-whole (read text)
 
-settings_fields-whole : (settings : Settings) → fields_have_float (settings_fields settings) ≡ false
-settings_fields-whole settings =
-    rw (where_true-whole settings.default_event_hold, pairs_if-whole settings.labels, lifecycle-whole settings.lifecycle, retention_if-whole settings.retention, versioning_if-whole settings.versioned)
+bucket_fields-whole : (row : BucketRow) → fields_have_float (bucket_fields row) ≡ false
+bucket_fields-whole row =
+    rw (
+      where_true-whole row.settings.default_event_hold,
+      pairs_if-whole row.settings.labels,
+      lifecycle-whole row.settings.lifecycle,
+      retention_if-whole row.settings.retention,
+      versioning_if-whole row.settings.versioned,
+    )
 
 -- the resource of a bucket has no float
 pub bucket_data-whole : (row : BucketRow) → has_float (bucket_data row) ≡ false
 unfolding bucket_data
-bucket_data-whole row = object_of-whole (bucket_fields row) (settings_fields-whole row.settings)
+bucket_data-whole row = object_of-whole (bucket_fields row) (bucket_fields-whole row)
 
 -- ---- lists and rewrites
 
@@ -195,7 +192,7 @@ pub list_data-whole : (bucket : List ℕ) (page : Page) → has_float (list_data
 list_data-whole bucket page =
     let items = array_if-whole (object_list bucket page.items page.settings) (object_list-whole bucket page.items page.settings) in
     let prefixes = array_if-whole (map string page.prefixes) (texts-whole page.prefixes) in
-    object_of-whole (list_fields bucket page) (rw (items, prefixes, text_if-whole (option_map page_token page.next)))
+    object_of-whole (list_fields bucket page) (rw (items, text_if-whole (option_map page_token page.next), prefixes))
 
 -- nor have the resources of several buckets
 bucket_list-whole : (rows : List BucketRow) → items_have_float (items_of (bucket_list rows)) ≡ false
@@ -214,7 +211,7 @@ where_done-whole (Some token) resource whole = refl
 
 -- a rewrite's answer has no float where its resource has none
 pub rewrite_data-whole : (reply : RewriteReply) (resource : Option Data) → ForSome resource (λ d. has_float d ≡ false) → has_float (rewrite_data reply resource) ≡ false
-rewrite_data-whole reply resource whole = object_of-whole (rewrite_fields reply resource) (rw (text_if-whole reply.token, where_done-whole reply.token resource whole))
+rewrite_data-whole reply resource whole = object_of-whole (rewrite_fields reply resource) (rw (where_done-whole reply.token resource whole, text_if-whole reply.token))
 
 -- what a clause says of a value that is handed in holds of its data
 pub shown-whole : (resource : Option Value) → ForSome resource (λ shown. has_float (view shown) ≡ false) → ForSome (option_map view resource) (λ d. has_float d ≡ false)

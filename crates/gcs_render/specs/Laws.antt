@@ -1,45 +1,65 @@
--- No resource has a field twice.
-use Rattle.std.specs.Prelude.{◌≡◌, ℕ, List, [], ◌∷◌, Bool, false, ◌||◌, map, Option, bytes_eq}
+-- The fields of each resource stand in the byte order of their keys, and no key stands twice.
+use Rattle.std.specs.Prelude.{◌≡◌, ℕ, List, [], ◌∷◌, Bool, true, ◌&&◌, map, Option}
+use Rattle.std.specs.Cmp.Lexicographic.{slice_cmp}
+use Rattle.std.specs.Ordering.{nat_cmp, is_gt}
 use Rattle.gcs_meaning.specs.declared.version.Row.{Row}
 use Rattle.gcs_meaning.specs.declared.version.BucketRow.{BucketRow}
+use Rattle.gcs_meaning.specs.declared.settings.Retention.{Retention}
 use Rattle.gcs_meaning.specs.declared.settings.Settings.{Settings}
 use Rattle.gcs_meaning.specs.declared.listing.Page.{Page}
 use Rattle.gcs_meaning.specs.declared.rewriting.RewriteReply.{RewriteReply}
 use Rattle.serde_json.specs.Data.{Data}
 use Rattle.gcs_render.specs.Fields.{Field}
-use Rattle.gcs_render.specs.Resources.{object_fields, bucket_fields}
+use Rattle.gcs_render.specs.Resources.{object_fields, bucket_fields, soft_policy_fields, retention_fields}
 use Rattle.gcs_render.specs.Lists.{list_fields, buckets_fields, rewrite_fields}
+use Rattle.gcs_render.specs.Refusals.{detail_fields, error_fields}
 
--- the key is one of these
-abbrev pub is_among : List ℕ → List (List ℕ) → Bool
-is_among key [] = false
-is_among key (other ∷ others) = bytes_eq key other || is_among key others
+-- the key is below each of these, in byte order
+abbrev pub is_below : List ℕ → List (List ℕ) → Bool
+is_below key [] = true
+is_below key (other ∷ others) = is_gt (slice_cmp nat_cmp other key) && is_below key others
 
--- some key stands twice
-abbrev pub has_repeat : List (List ℕ) → Bool
-has_repeat [] = false
-has_repeat (key ∷ keys) = is_among key keys || has_repeat keys
+-- the keys rise in byte order
+abbrev pub rise : List (List ℕ) → Bool
+rise [] = true
+rise (key ∷ keys) = is_below key keys && rise keys
 
--- two fields have one key
-abbrev pub has_field_twice : List Field → Bool
-has_field_twice fields = has_repeat (map (λ field. field.0) fields)
+-- the keys of these fields rise
+abbrev pub DoRise : List Field → Type 0
+DoRise fields = rise (map (λ field. field.0) fields) ≡ true
 
 -- of an object
-abbrev pub ObjectFieldsOnce : Type 0
-ObjectFieldsOnce = (bucket : List ℕ) (row : Row) (settings : Settings) → has_field_twice (object_fields bucket row settings) ≡ false
+abbrev pub ObjectFieldsRise : Type 0
+ObjectFieldsRise = (bucket : List ℕ) (row : Row) (settings : Settings) → DoRise (object_fields bucket row settings)
 
 -- of a bucket
-abbrev pub BucketFieldsOnce : Type 0
-BucketFieldsOnce = (row : BucketRow) → has_field_twice (bucket_fields row) ≡ false
+abbrev pub BucketFieldsRise : Type 0
+BucketFieldsRise = (row : BucketRow) → DoRise (bucket_fields row)
+
+-- of a bucket's soft-delete policy
+abbrev pub SoftPolicyFieldsRise : Type 0
+SoftPolicyFieldsRise = (settings : Settings) → DoRise (soft_policy_fields settings)
+
+-- of its retention policy
+abbrev pub RetentionFieldsRise : Type 0
+RetentionFieldsRise = (policy : Retention) → DoRise (retention_fields policy)
 
 -- of a page of objects
-abbrev pub PageFieldsOnce : Type 0
-PageFieldsOnce = (bucket : List ℕ) (page : Page) → has_field_twice (list_fields bucket page) ≡ false
+abbrev pub PageFieldsRise : Type 0
+PageFieldsRise = (bucket : List ℕ) (page : Page) → DoRise (list_fields bucket page)
 
 -- of a page of buckets
-abbrev pub BucketPageFieldsOnce : Type 0
-BucketPageFieldsOnce = (rows : List BucketRow) (token : Option (List ℕ)) → has_field_twice (buckets_fields rows token) ≡ false
+abbrev pub BucketPageFieldsRise : Type 0
+BucketPageFieldsRise = (rows : List BucketRow) (token : Option (List ℕ)) → DoRise (buckets_fields rows token)
 
 -- of a rewrite's answer
-abbrev pub RewriteFieldsOnce : Type 0
-RewriteFieldsOnce = (reply : RewriteReply) (resource : Option Data) → has_field_twice (rewrite_fields reply resource) ≡ false
+abbrev pub RewriteFieldsRise : Type 0
+RewriteFieldsRise = (reply : RewriteReply) (resource : Option Data) → DoRise (rewrite_fields reply resource)
+
+-- of an error
+abbrev pub ErrorFieldsRise : Type 0
+ErrorFieldsRise = (code : ℕ) (message word : List ℕ) → DoRise (error_fields code message word)
+
+-- of an error's detail
+abbrev pub DetailFieldsRise : Type 0
+DetailFieldsRise = (message word : List ℕ) → DoRise (detail_fields message word)

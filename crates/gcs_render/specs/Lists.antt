@@ -1,5 +1,6 @@
--- Lists of resources (Cloud Storage JSON API, "Objects: list" and "Buckets: list"), and a rewrite's answer ("Objects: rewrite").
-use Rattle.std.specs.Prelude.{ℕ, List, [], ◌∷◌, not, Option, Some, None, option_map, is_some, map, codes}
+-- Lists of resources (Cloud Storage JSON API, "Objects: list" and "Buckets: list"), and a rewrite's answer ("Objects: rewrite"). The fields
+-- of each stand in the byte order of their keys.
+use Rattle.std.specs.Prelude.{ℕ, List, [], ◌∷◌, ◌++◌, not, Option, Some, None, option_map, is_some, map, codes}
 use Rattle.gcs_meaning.specs.declared.version.Row.{Row}
 use Rattle.gcs_meaning.specs.declared.version.BucketRow.{BucketRow}
 use Rattle.gcs_meaning.specs.declared.listing.Page.{Page}
@@ -17,10 +18,10 @@ object_list bucket rows settings = map (λ row. object_data bucket row settings)
 -- a page of a listing: its items and its prefixes where it has some, and a token where more is left
 abbrev pub list_fields : List ℕ → Page → List Field
 list_fields bucket page =
-    (codes "kind", text (codes "storage#objects"))
-    ∷ (codes "items", array_if (object_list bucket page.items page.settings))
-    ∷ (codes "prefixes", array_if (map string page.prefixes))
+    (codes "items", array_if (object_list bucket page.items page.settings))
+    ∷ (codes "kind", text (codes "storage#objects"))
     ∷ (codes "nextPageToken", text_if (option_map page_token page.next))
+    ∷ (codes "prefixes", array_if (map string page.prefixes))
     ∷ []
 
 -- the same as a value
@@ -34,8 +35,8 @@ bucket_list rows = map (λ row. bucket_data row) rows
 -- a page of the list of buckets
 abbrev pub buckets_fields : List BucketRow → Option (List ℕ) → List Field
 buckets_fields rows token =
-    (codes "kind", text (codes "storage#buckets"))
-    ∷ (codes "items", array_if (bucket_list rows))
+    (codes "items", array_if (bucket_list rows))
+    ∷ (codes "kind", text (codes "storage#buckets"))
     ∷ (codes "nextPageToken", text_if token)
     ∷ []
 
@@ -48,17 +49,29 @@ abbrev pub where_done : Option (List ℕ) → Option Data → Option Data
 where_done None resource = resource
 where_done (Some token) resource = None
 
--- a rewrite's answer, which is done where it has no token, and only then shows a resource
-abbrev pub rewrite_fields : RewriteReply → Option Data → List Field
-rewrite_fields reply resource =
+-- a rewrite's answer up to the resource: it is done where it has no token
+abbrev pub rewrite_start : RewriteReply → List Field
+rewrite_start reply =
     (codes "done", truth (not (is_some reply.token)))
     ∷ (codes "kind", text (codes "storage#rewriteResponse"))
     ∷ (codes "objectSize", long reply.size)
-    ∷ (codes "totalBytesRewritten", long reply.rewritten)
-    ∷ (codes "rewriteToken", text_if reply.token)
-    ∷ (codes "resource", where_done reply.token resource)
     ∷ []
+
+-- and behind the resource
+abbrev pub rewrite_end : RewriteReply → List Field
+rewrite_end reply =
+    (codes "rewriteToken", text_if reply.token)
+    ∷ (codes "totalBytesRewritten", long reply.rewritten)
+    ∷ []
+
+-- all of it: only where it is done it shows a resource
+abbrev pub rewrite_fields : RewriteReply → Option Data → List Field
+rewrite_fields reply resource = rewrite_start reply ++ (codes "resource", where_done reply.token resource) ∷ rewrite_end reply
 
 -- the same as a value
 abbrev pub rewrite_data : RewriteReply → Option Data → Data
 rewrite_data reply resource = object_of (rewrite_fields reply resource)
+
+-- the resource of a version with its bucket's settings, where there is one
+abbrev pub version_data : List ℕ → Option (Row × Settings) → Option Data
+version_data bucket version = option_map (λ v. object_data bucket v.0 v.1) version

@@ -1,17 +1,16 @@
 -- What a resource shows (Cloud Storage JSON API, "Objects" and "Buckets", "Resource representations"), by its fields.
-use Rattle.std.specs.Prelude.{ℕ, ◌+◌, ◌-◌, ◌^◌, min, List, [], ◌∷◌, ◌++◌, length, Bool, true, false, Option, Some, None, option_map, option_and_then, unwrap_or, if◌then◌else◌, codes, decimal}
+use Rattle.std.specs.Prelude.{ℕ, ◌-◌, ◌^◌, min, List, [], ◌∷◌, ◌++◌, length, Bool, true, false, Option, Some, None, option_map, option_and_then, unwrap_or, if◌then◌else◌, codes, decimal}
 use Rattle.gcs_meaning.specs.declared.version.Row.{Row}
 use Rattle.gcs_meaning.specs.declared.version.BucketRow.{BucketRow}
 use Rattle.gcs_meaning.specs.declared.version.Kind.{Kind}
 use Rattle.gcs_meaning.specs.declared.version.Kind.TheVariants.{Live, Noncurrent, Soft}
-use Rattle.gcs_meaning.specs.declared.settings.Meta.{Meta}
 use Rattle.gcs_meaning.specs.declared.settings.Settings.{Settings}
 use Rattle.gcs_meaning.specs.declared.settings.Retention.{Retention}
 use Rattle.gcs_meaning.specs.BucketDeletion.{hard_of}
 use Rattle.gcs_meaning.specs.Choosing.{is_readable}
 use Rattle.gcs_meaning.specs.Content.{bytes_in, md5_if}
 use Rattle.gcs_meaning.specs.Fit.{kind_began}
-use Rattle.gcs_meaning.specs.Policy.{micros}
+use Rattle.gcs_meaning.specs.Policy.{retained_until}
 use Rattle.gcs_crc.specs.Crc.{crc}
 use Rattle.gcs_crc.specs.Text.{crc_text_of, md5_text_of}
 use Rattle.serde_json.specs.Data.{Data}
@@ -43,105 +42,81 @@ soft_since kind = if is_readable kind then None else Some (kind_began kind)
 abbrev pub hard_time : Kind → Option ℕ
 hard_time kind = if is_readable kind then None else Some (hard_of kind)
 
--- the end of a retention of so many seconds; no end is above the greatest number of 64 bits
-abbrev pub retention_end : ℕ → ℕ → ℕ
-retention_end start seconds = min (start + micros seconds) (2 ^ 64 - 1)
-
--- the end of the retention, for a kind of version that a policy retains
+-- the end of the retention, for a kind of version that a policy retains; no end is above the greatest number of 64 bits
 abbrev pub retained_by : Kind → ℕ → Option Retention → Option ℕ
 retained_by (Soft at hard) start policy = None
-retained_by _ start policy = option_map (λ p. retention_end start p.period) policy
+retained_by _ start policy = option_map (λ p. min (retained_until start p.period) (2 ^ 64 - 1)) policy
 
 -- until when a version is retained; under an event-based hold its retention has no end
-abbrev pub retained_until : Row → Settings → Option ℕ
-retained_until row settings =
+abbrev pub retention_end : Row → Settings → Option ℕ
+retention_end row settings =
     if unwrap_or row.meta.event_hold false then None else retained_by row.kind row.retention_start settings.retention
 
--- ---- objects
+-- ---- objects, whose fields stand in the byte order of their keys
 
--- what tells which version it is
-abbrev pub version_fields : List ℕ → Row → List Field
-version_fields bucket row =
+-- from `bucket` to `contentType`
+abbrev pub object_from_bucket : List ℕ → Row → List Field
+object_from_bucket bucket row =
     (codes "bucket", text bucket)
-    ∷ (codes "name", text row.name)
-    ∷ (codes "kind", text (codes "storage#object"))
-    ∷ (codes "id", text (object_id bucket row.name row.generation))
-    ∷ (codes "etag", text (etag row.generation row.metageneration))
-    ∷ (codes "generation", long row.generation)
-    ∷ (codes "metageneration", long row.metageneration)
-    ∷ (codes "size", long (length (bytes_in row.hashed)))
+    ∷ (codes "cacheControl", text_if row.meta.cache_control)
     ∷ (codes "componentCount", count_if row.components)
+    ∷ (codes "contentDisposition", text_if row.meta.content_disposition)
+    ∷ (codes "contentEncoding", text_if row.meta.content_encoding)
+    ∷ (codes "contentLanguage", text_if row.meta.content_language)
+    ∷ (codes "contentType", text row.meta.content_type)
     ∷ []
 
--- what the content is
-abbrev pub content_fields : Row → Settings → List Field
-content_fields row settings =
-    (codes "contentType", text row.meta.content_type)
-    ∷ (codes "storageClass", text (unwrap_or row.meta.storage_class settings.storage_class))
-    ∷ (codes "crc32c", text (crc_text_of (crc (bytes_in row.hashed))))
-    ∷ (codes "md5Hash", text_if (option_map md5_text_of (md5_if row.hashed.with_md5 (bytes_in row.hashed))))
-    ∷ []
-
--- what its owner says of it
-abbrev pub meta_fields : Meta → List Field
-meta_fields meta =
-    (codes "cacheControl", text_if meta.cache_control)
-    ∷ (codes "contentDisposition", text_if meta.content_disposition)
-    ∷ (codes "contentEncoding", text_if meta.content_encoding)
-    ∷ (codes "contentLanguage", text_if meta.content_language)
-    ∷ (codes "customTime", time_if meta.custom_time)
-    ∷ (codes "metadata", pairs_if meta.custom)
-    ∷ []
-
--- holds, times and kind
-abbrev pub state_fields : Row → Settings → List Field
-state_fields row settings =
-    (codes "temporaryHold", where_true row.meta.temporary_hold)
+-- from `crc32c` to `id`
+abbrev pub object_from_crc : List ℕ → Row → List Field
+object_from_crc bucket row =
+    (codes "crc32c", text (crc_text_of (crc (bytes_in row.hashed))))
+    ∷ (codes "customTime", time_if row.meta.custom_time)
+    ∷ (codes "etag", text (etag row.generation row.metageneration))
     ∷ (codes "eventBasedHold", where_true (unwrap_or row.meta.event_hold false))
-    ∷ (codes "timeCreated", time row.created)
-    ∷ (codes "updated", time row.updated)
-    ∷ (codes "timeDeleted", time_if (noncurrent_since row.kind))
-    ∷ (codes "softDeleteTime", time_if (soft_since row.kind))
+    ∷ (codes "generation", long row.generation)
     ∷ (codes "hardDeleteTime", time_if (hard_time row.kind))
-    ∷ (codes "retentionExpirationTime", time_if (retained_until row settings))
+    ∷ (codes "id", text (object_id bucket row.name row.generation))
+    ∷ []
+
+-- from `kind` to `size`
+abbrev pub object_from_kind : Row → Settings → List Field
+object_from_kind row settings =
+    (codes "kind", text (codes "storage#object"))
+    ∷ (codes "md5Hash", text_if (option_map md5_text_of (md5_if row.hashed.with_md5 (bytes_in row.hashed))))
+    ∷ (codes "metadata", pairs_if row.meta.custom)
+    ∷ (codes "metageneration", long row.metageneration)
+    ∷ (codes "name", text row.name)
+    ∷ (codes "retentionExpirationTime", time_if (retention_end row settings))
+    ∷ (codes "size", long (length (bytes_in row.hashed)))
+    ∷ []
+
+-- from `softDeleteTime` to `updated`
+abbrev pub object_from_soft : Row → Settings → List Field
+object_from_soft row settings =
+    (codes "softDeleteTime", time_if (soft_since row.kind))
+    ∷ (codes "storageClass", text (unwrap_or row.meta.storage_class settings.storage_class))
+    ∷ (codes "temporaryHold", where_true row.meta.temporary_hold)
+    ∷ (codes "timeCreated", time row.created)
+    ∷ (codes "timeDeleted", time_if (noncurrent_since row.kind))
+    ∷ (codes "updated", time row.updated)
     ∷ []
 
 -- all of an object
 abbrev pub object_fields : List ℕ → Row → Settings → List Field
-object_fields bucket row settings = version_fields bucket row ++ content_fields row settings ++ meta_fields row.meta ++ state_fields row settings
+object_fields bucket row settings =
+    object_from_bucket bucket row ++ object_from_crc bucket row ++ object_from_kind row settings ++ object_from_soft row settings
 
 -- the resource of a version in this bucket
 unfoldable pub object_data : List ℕ → Row → Settings → Data
 object_data bucket row settings = object_of (object_fields bucket row settings)
 
--- ---- buckets
-
--- which bucket it is
-abbrev pub name_fields : BucketRow → List Field
-name_fields row =
-    (codes "etag", text (etag row.generation row.metageneration))
-    ∷ (codes "generation", long row.generation)
-    ∷ (codes "id", text row.name)
-    ∷ (codes "name", text row.name)
-    ∷ (codes "kind", text (codes "storage#bucket"))
-    ∷ (codes "metageneration", long row.metageneration)
-    ∷ (codes "timeCreated", time row.created)
-    ∷ (codes "updated", time row.updated)
-    ∷ []
+-- ---- buckets, whose fields stand in the same order
 
 -- how long deleted versions are kept, and since when the bucket does so
 abbrev pub soft_policy_fields : Settings → List Field
 soft_policy_fields settings =
     (codes "effectiveTime", time settings.soft_since)
     ∷ (codes "retentionDurationSeconds", long settings.soft_seconds)
-    ∷ []
-
--- what every bucket has
-abbrev pub fixed_fields : Settings → List Field
-fixed_fields settings =
-    (codes "location", text settings.location)
-    ∷ (codes "softDeletePolicy", inner (soft_policy_fields settings))
-    ∷ (codes "storageClass", text settings.storage_class)
     ∷ []
 
 -- what a retention policy is
@@ -156,9 +131,13 @@ retention_fields policy =
 abbrev pub retention_if : Option Retention → Option Data
 retention_if policy = option_map (λ p. object_of (retention_fields p)) policy
 
+-- that versioning is on
+abbrev pub versioning_fields : List Field
+versioning_fields = (codes "enabled", truth true) ∷ []
+
 -- versioning, where it is on
 abbrev pub versioning_if : Bool → Option Data
-versioning_if versioned = if versioned then inner ((codes "enabled", truth true) ∷ []) else None
+versioning_if versioned = if versioned then inner versioning_fields else None
 
 -- a value, if its numbers are whole
 abbrev pub if_whole : Data → Option Data
@@ -168,19 +147,40 @@ if_whole value = if has_float value then None else Some value
 abbrev pub whole_value : List ℕ → Option Data
 whole_value text = option_and_then if_whole (read text)
 
--- what stands where it is set; a lifecycle whose text has no such reading isn't shown
-abbrev pub settings_fields : Settings → List Field
-settings_fields settings =
-    (codes "defaultEventBasedHold", where_true settings.default_event_hold)
-    ∷ (codes "labels", pairs_if settings.labels)
-    ∷ (codes "lifecycle", option_and_then whole_value settings.lifecycle)
-    ∷ (codes "retentionPolicy", retention_if settings.retention)
-    ∷ (codes "versioning", versioning_if settings.versioned)
+-- from `defaultEventBasedHold` to `labels`
+abbrev pub bucket_from_hold : BucketRow → List Field
+bucket_from_hold row =
+    (codes "defaultEventBasedHold", where_true row.settings.default_event_hold)
+    ∷ (codes "etag", text (etag row.generation row.metageneration))
+    ∷ (codes "generation", long row.generation)
+    ∷ (codes "id", text row.name)
+    ∷ (codes "kind", text (codes "storage#bucket"))
+    ∷ (codes "labels", pairs_if row.settings.labels)
+    ∷ []
+
+-- from `lifecycle` to `retentionPolicy`; a lifecycle whose text has no reading in whole numbers isn't shown
+abbrev pub bucket_from_lifecycle : BucketRow → List Field
+bucket_from_lifecycle row =
+    (codes "lifecycle", option_and_then whole_value row.settings.lifecycle)
+    ∷ (codes "location", text row.settings.location)
+    ∷ (codes "metageneration", long row.metageneration)
+    ∷ (codes "name", text row.name)
+    ∷ (codes "retentionPolicy", retention_if row.settings.retention)
+    ∷ []
+
+-- from `softDeletePolicy` to `versioning`
+abbrev pub bucket_from_soft : BucketRow → List Field
+bucket_from_soft row =
+    (codes "softDeletePolicy", inner (soft_policy_fields row.settings))
+    ∷ (codes "storageClass", text row.settings.storage_class)
+    ∷ (codes "timeCreated", time row.created)
+    ∷ (codes "updated", time row.updated)
+    ∷ (codes "versioning", versioning_if row.settings.versioned)
     ∷ []
 
 -- all of a bucket
 abbrev pub bucket_fields : BucketRow → List Field
-bucket_fields row = name_fields row ++ fixed_fields row.settings ++ settings_fields row.settings
+bucket_fields row = bucket_from_hold row ++ bucket_from_lifecycle row ++ bucket_from_soft row
 
 -- the resource of a bucket
 unfoldable pub bucket_data : BucketRow → Data

@@ -1,17 +1,19 @@
-//! Lists of resources, and a rewrite's answer.
-ghost use Rattle.std.specs.Prelude.{◌≡◌, false, IfOk, map, option_map, string_bytes};
-ghost use Rattle.std.specs.Option.{ForSome};
-ghost use Rattle.serde_json.specs.Data.{string};
+//! Pages of objects and of buckets.
+ghost use Rattle.std.specs.Prelude.{◌≡◌, ◌++◌, codes, false, IfOk, OnOk, option_map, string_bytes};
 ghost use Rattle.serde_json.specs.View.{view};
-ghost use Rattle.serde_json.specs.Written.{has_float};
+ghost use Rattle.serde_json.specs.Written.{compact_text, has_float};
 ghost use Rattle.gcs_meaning.specs.Tokens.{page_token};
-ghost use Rattle.gcs_render.specs.Lists.{object_list, bucket_list, list_data, buckets_data, rewrite_data};
+ghost use Rattle.gcs_render.specs.Fields.{text_if};
+ghost use Rattle.gcs_render.specs.Lists.{list_fields, list_data, buckets_fields, buckets_data};
+ghost use Rattle.gcs_render.specs.Shown.{show_fields, show_where, with_value};
+ghost use Rattle.gcs_render.specs.Writing.{sent};
 
-use crate::bucket::bucket_value;
 use crate::fields::Fields;
-use crate::object::object_value;
+use crate::list_sink::ListSink;
+use crate::sink::FieldSink;
+use crate::writing::{FieldWriter, PARTS_ROOM};
 use base64::engine::general_purpose::URL_SAFE_NO_PAD;
-use gcs_meaning::{BucketName, BucketRow, List, Page, RewriteReply, Row, Settings, Text, Unit};
+use gcs_meaning::{BucketName, BucketRow, List, Page, Text, Unit};
 use serde_json::Value;
 use std::alloc::{AllocError, Global};
 
@@ -23,15 +25,24 @@ pub fn list_value(alloc: Global, bucket: &BucketName, page: &Page) -> Result<Val
     ensures whole { IfOk result (λ value. has_float (view value) ≡ false) }
 {
     let mut fields = Fields::new(alloc);
-    fields.text("kind", "storage#objects")?;
-    let items = objects(alloc, bucket, page.items.as_slice(), &page.settings)?;
-    fields.array_if("items", items)?;
-    let prefixes = texts(alloc, page.prefixes.as_slice())?;
-    fields.array_if("prefixes", prefixes)?;
-    if let Some(unit) = &page.next {
-        fields.string("nextPageToken", token_text(alloc, unit)?)?;
-    }
+    let mut room = String::new(alloc);
+    put_page(alloc, &mut fields, &mut room, bucket, page)?;
     Ok(fields.into_value())
+}
+
+/// The same page as compact JSON, behind what `text` holds. `Err`: no memory.
+pub fn list_text(
+    alloc: Global,
+    text: Vec<u8>,
+    bucket: &BucketName,
+    page: &Page,
+) -> Result<Vec<u8>, AllocError>
+    ensures { IfOk result (λ made. made.items ≡ text.items ++ compact_text (list_data bucket.now page.now)) }
+{
+    let mut fields = FieldWriter::new(alloc, text);
+    let mut room = String::with_capacity(alloc, PARTS_ROOM)?;
+    write_page(alloc, &mut fields, &mut room, bucket, page)?;
+    Ok(fields.into_text())
 }
 
 /// A page of the list of buckets, with this token where more is left. `Err`: no memory.
@@ -47,41 +58,114 @@ pub fn buckets_value(
     ensures whole { IfOk result (λ value. has_float (view value) ≡ false) }
 {
     let mut fields = Fields::new(alloc);
-    fields.text("kind", "storage#buckets")?;
-    let items = buckets(alloc, rows.as_slice())?;
-    fields.array_if("items", items)?;
-    if let Some(token) = token {
-        fields.text("nextPageToken", token.as_str())?;
-    }
+    let mut room = String::new(alloc);
+    put_bucket_page(&mut fields, &mut room, rows, token)?;
     Ok(fields.into_value())
 }
 
-/// A rewrite's answer. It is done where the reply has no token, and then shows the destination's resource, where there is one.
-/// `Err`: no memory.
-///
-/// Source: Cloud Storage JSON API, "Objects: rewrite".
-pub fn rewrite_value(
+/// The same page as compact JSON, behind what `text` holds. `Err`: no memory.
+pub fn buckets_text(
     alloc: Global,
-    reply: &RewriteReply,
-    resource: Option<Value>,
-) -> Result<Value, AllocError>
-    ensures value { IfOk result (λ value. view value ≡ rewrite_data reply.now (option_map view resource)) }
-    ensures whole { IfOk result
-        (λ value. ForSome resource (λ shown. has_float (view shown) ≡ false) → has_float (view value) ≡ false) }
+    text: Vec<u8>,
+    rows: &List<BucketRow>,
+    token: Option<&Text>,
+) -> Result<Vec<u8>, AllocError>
+    ensures { IfOk result (λ made. made.items
+        ≡ text.items ++ compact_text (buckets_data rows.now (option_map (λ t. t.now) token.entry))) }
 {
-    let mut fields = Fields::new(alloc);
-    let done = reply.token.is_none();
-    fields.truth("done", done)?;
-    fields.text("kind", "storage#rewriteResponse")?;
-    fields.long("objectSize", reply.size)?;
-    fields.long("totalBytesRewritten", reply.rewritten)?;
-    fields.text_if("rewriteToken", &reply.token)?;
-    if done {
-        fields.put_if("resource", resource)?;
-    } else {
-        drop(resource);
+    let mut fields = FieldWriter::new(alloc, text);
+    let mut room = String::with_capacity(alloc, PARTS_ROOM)?;
+    write_bucket_page(&mut fields, &mut room, rows, token)?;
+    Ok(fields.into_text())
+}
+
+fn write_page(
+    alloc: Global,
+    fields: &mut FieldWriter,
+    room: &mut String,
+    bucket: &BucketName,
+    page: &Page,
+) -> Result<(), AllocError>
+    ensures { OnOk result (sent fields.new ≡ with_value (list_data bucket.now page.now) (sent fields.old)) }
+{
+    fields.begin_object()?;
+    put_page(alloc, fields, room, bucket, page)?;
+    fields.end_object()?;
+    Ok(())
+}
+
+fn write_bucket_page(
+    fields: &mut FieldWriter,
+    room: &mut String,
+    rows: &List<BucketRow>,
+    token: Option<&Text>,
+) -> Result<(), AllocError>
+    ensures { OnOk result
+        (sent fields.new ≡ with_value (buckets_data rows.now (option_map (λ t. t.now) token.entry)) (sent fields.old)) }
+{
+    fields.begin_object()?;
+    put_bucket_page(fields, room, rows, token)?;
+    fields.end_object()?;
+    Ok(())
+}
+
+fn put_page<S: ListSink>(
+    alloc: Global,
+    fields: &mut S,
+    room: &mut String,
+    bucket: &BucketName,
+    page: &Page,
+) -> Result<(), AllocError>
+    ensures { OnOk result (S.shown fields.new ≡ show_fields (list_fields bucket.now page.now) (S.shown fields.old)) }
+{
+    fields.objects_if("items", room, bucket, page.items.as_slice(), &page.settings)?;
+    fields.text("kind", "storage#objects")?;
+    put_token(alloc, fields, &page.next)?;
+    fields.texts_if("prefixes", page.prefixes.as_slice())?;
+    Ok(())
+}
+
+fn put_bucket_page<S: ListSink>(
+    fields: &mut S,
+    room: &mut String,
+    rows: &List<BucketRow>,
+    token: Option<&Text>,
+) -> Result<(), AllocError>
+    ensures { OnOk result (S.shown fields.new
+        ≡ show_fields (buckets_fields rows.now (option_map (λ t. t.now) token.entry)) (S.shown fields.old)) }
+{
+    fields.buckets_if("items", room, rows.as_slice())?;
+    fields.text("kind", "storage#buckets")?;
+    put_given_token(fields, token)?;
+    Ok(())
+}
+
+// The token of a page's last unit.
+#[tactic(auto, unfolding(crate::specs::Shown::show_where))]
+fn put_token<S: FieldSink>(
+    alloc: Global,
+    fields: &mut S,
+    next: &Option<Unit>,
+) -> Result<(), AllocError>
+    ensures { OnOk result
+        (S.shown fields.new ≡ show_where (codes "nextPageToken") (text_if (option_map page_token next.now)) (S.shown fields.old)) }
+{
+    if let Some(unit) = next {
+        let token = token_text(alloc, unit)?;
+        fields.text("nextPageToken", token.as_str())?;
     }
-    Ok(fields.into_value())
+    Ok(())
+}
+
+#[tactic(auto, unfolding(crate::specs::Shown::show_where))]
+fn put_given_token<S: FieldSink>(fields: &mut S, token: Option<&Text>) -> Result<(), AllocError>
+    ensures { OnOk result (S.shown fields.new
+        ≡ show_where (codes "nextPageToken") (text_if (option_map (λ t. t.now) token.entry)) (S.shown fields.old)) }
+{
+    if let Some(token) = token {
+        fields.text("nextPageToken", token.as_str())?;
+    }
+    Ok(())
 }
 
 fn token_text(alloc: Global, unit: &Unit) -> Result<String, AllocError>
@@ -89,39 +173,4 @@ fn token_text(alloc: Global, unit: &Unit) -> Result<String, AllocError>
 {
     let text = format!(in alloc; "{}:{}", unit.number, unit.text.as_str())?;
     URL_SAFE_NO_PAD.encode(alloc, text.as_bytes())
-}
-
-fn objects(
-    alloc: Global,
-    bucket: &BucketName,
-    rows: &[Row],
-    settings: &Settings,
-) -> Result<Vec<Value>, AllocError>
-    ensures { IfOk result (λ values. map view values.items ≡ object_list bucket.now rows.now settings.now) }
-{
-    let mut values = Vec::new(alloc);
-    for row in rows {
-        values.push(object_value(alloc, bucket, row, settings)?)?;
-    }
-    Ok(values)
-}
-
-fn buckets(alloc: Global, rows: &[BucketRow]) -> Result<Vec<Value>, AllocError>
-    ensures { IfOk result (λ values. map view values.items ≡ bucket_list rows.now) }
-{
-    let mut values = Vec::new(alloc);
-    for row in rows {
-        values.push(bucket_value(alloc, row)?)?;
-    }
-    Ok(values)
-}
-
-fn texts(alloc: Global, texts: &[Text]) -> Result<Vec<Value>, AllocError>
-    ensures { IfOk result (λ values. map view values.items ≡ map string texts.now) }
-{
-    let mut values = Vec::new(alloc);
-    for text in texts {
-        values.push(Value::try_from_str(alloc, text.as_str())?)?;
-    }
-    Ok(values)
 }

@@ -1,0 +1,12 @@
+use Rattle.std.proofs.Common.{◌≡◌, ◌∙◌, [], ap, rules}
+use Rattle.gcs_render.specs.Lists.{list_data}
+use Rattle.gcs_render.specs.Shown.{with_value}
+use Rattle.gcs_render.specs.Writing.{sent}
+use Rattle.gcs_render.proofs.Written.{text-written}
+use Rattle.gcs_render.proofs.lists.list_text.Goals as goal
+
+pub returns : goal.returns
+returns c =
+    let value = list_data c.args.bucket.now c.args.page.now in
+    let start : sent c.new-fields.result ≡ (c.args.text.items, []) = search rules in
+    text-written value c.args.text.items c.into_text.result.items (sent c.write_page.new.fields) (c.in_ok-write_page.ensures ∙ ap (with_value value) start) c.into_text.ensures
