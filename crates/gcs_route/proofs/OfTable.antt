@@ -20,7 +20,7 @@ use Rattle.gcs_route.specs.Pieces.{is_piece, row_by}
 use Rattle.gcs_route.specs.Refusals.{served, query, param, Passes, AllPass, name_tests, mask_tests, value_tests, names_at}
 use Rattle.gcs_route.specs.Served.{is_served, unserved_uploads, is_among, is_unserved}
 use Rattle.gcs_route.specs.Table.{Row, routes}
-use Rattle.gcs_route.proofs.ParamLemmas.{same_names, page_size, needed_generation, needed_metageneration, needed_upload, soft_generation, media_upload, name_by_rule}
+use Rattle.gcs_route.proofs.ParamLemmas.{same_names, page_size, needed_generation, needed_metageneration, needed_upload, soft_generation, whole_upload, name_by_rule}
 use Rattle.gcs_route.proofs.PathNames.{places, both_pass, names_counted, buckets_by_rule, objects_by_rule}
 
 -- what holds of a row: its path has the places of its kind, and its parameters leave what its kind has
@@ -60,7 +60,7 @@ all_rows =
     ▹ record { buckets = refl; objects = refl; params = λ q call part ok on. tt }
     ▹ record { buckets = refl; objects = refl; params = λ q call part ok on. tt }
     ▹ record { buckets = refl; objects = refl; params = λ q call part ok on. needed_generation q ok.0 }
-    ▹ record { buckets = refl; objects = refl; params = λ q call part ok on. (media_upload q ok.0 on, name_by_rule q ok.1.0) }
+    ▹ record { buckets = refl; objects = refl; params = λ q call part ok on. (whole_upload q ok.0 on, name_by_rule q ok.1.0) }
     ▹ record { buckets = refl; objects = refl; params = λ q call part ok on. needed_upload q ok.0 }
     ▹ record { buckets = refl; objects = refl; params = λ q call part ok on. needed_upload q ok.0 }
     ▹ record { buckets = refl; objects = refl; params = λ q call part ok on. refl }
@@ -99,6 +99,7 @@ all_accepted text (p ∷ ps) all = (all.0, all_accepted text ps all.1)
 
 -- the kind of a kind's row is that kind
 pub kind_of_row : (kind : RequestKind) → kind_of (row_of kind) ≡ kind
+unfolding kind_of
 kind_of_row BucketInsert = refl
 kind_of_row _ = refl
 

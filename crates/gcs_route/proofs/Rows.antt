@@ -2,7 +2,6 @@
 use Rattle.std.proofs.Common.{◌≡◌, ℕ, true, false, List, [], ◌∷◌, ◌++◌, map, inl, inr, ⊎_elim, Option, Some, None, subst, sym, ap, refl, ◌∙◌}
 use Rattle.gcs_query.specs.Query.{Pair, pairs_of}
 use Rattle.gcs_meaning.specs.declared.reason.Reason.{Reason}
-use Rattle.gcs_meaning.specs.declared.reason.Reason.TheVariants.{NotBuilt}
 use Rattle.gcs_route.specs.declared.fault.RouteFault.{RouteFault}
 use Rattle.gcs_route.specs.declared.fault.RouteFault.TheVariants.{Refused, NoMemory}
 use Rattle.gcs_route.specs.declared.table.Param.{Param}
@@ -59,12 +58,6 @@ behind_served : (row : Row) (segs : List (List ℕ)) (text : List ℕ) (f : Rout
     → IsFirstFault text (name_tests row.path segs ++ query ∷ value_tests row) f → IsFirstFault text (tests row segs) f
 behind_served row segs text (Refused r) is_served h = inr (is_served, h)
 behind_served row segs text NoMemory is_served h = tt
-
--- the request is not served
-pub refused_kind : (row : Row) (segs : List (List ℕ)) (text : List ℕ) (pairs : List Pair) (f : RouteFault) → pairs ≡ pairs_of text
-    → f ≡ Refused NotBuilt → is_unserved pairs row.kind ≡ true → IsFirstFault text (tests row segs) f
-refused_kind row segs text pairs f p e is =
-    subst (IsFirstFault text (tests row segs)) (sym e) (inl (refl, subst (λ x. is_unserved x row.kind ≡ true) p is))
 
 -- a name is refused
 pub refused_name : (row : Row) (segs : List (List ℕ)) (text : List ℕ) (f : RouteFault) → Passes text (served row.kind) → IsAlwaysFirstFault (name_tests row.path segs) f → IsFirstFault text (tests row segs) f

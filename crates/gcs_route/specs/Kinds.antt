@@ -28,7 +28,7 @@ row_of UploadCancel = 20
 row_of Download = 21
 
 -- the request of the row of that number, and the last where no row has it
-abbrev pub kind_of : ℕ → RequestKind
+unfoldable pub kind_of : ℕ → RequestKind
 kind_of row =
     if row == 1 then BucketInsert
     else if row == 2 then BucketList

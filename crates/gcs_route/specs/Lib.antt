@@ -3,6 +3,7 @@ pub mod Filling
 pub mod Finding
 pub mod Kinds
 pub mod Masks
+pub mod OfCall
 pub mod OfTable
 pub mod Pairs
 pub mod Params

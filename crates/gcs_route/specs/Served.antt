@@ -4,25 +4,19 @@ use Rattle.std.specs.List.{list_any}
 use Rattle.gcs_query.specs.Query.{Pair}
 use Rattle.gcs_meaning.specs.declared.reason.Key.TheVariants.{UploadType}
 use Rattle.gcs_route.specs.declared.kind.RequestKind.{RequestKind}
-use Rattle.gcs_route.specs.declared.kind.RequestKind.TheVariants.{BucketLock, BucketRestore, ObjectCompose, ObjectRewrite, ObjectCopy, ObjectRestore, UploadPiece, UploadCancel}
+use Rattle.gcs_route.specs.declared.kind.RequestKind.TheVariants.{UploadPiece, UploadCancel}
 use Rattle.gcs_route.specs.Kinds.{is_upload}
 use Rattle.gcs_route.specs.Params.{text_at}
 
 -- such requests are served
 abbrev pub is_served : RequestKind → Bool
-is_served BucketLock = false
-is_served BucketRestore = false
-is_served ObjectCompose = false
-is_served ObjectRewrite = false
-is_served ObjectCopy = false
-is_served ObjectRestore = false
 is_served UploadPiece = false
 is_served UploadCancel = false
 is_served _ = true
 
 -- the ways to upload that are not served
 abbrev pub unserved_uploads : List (List ℕ)
-unserved_uploads = codes "multipart" ∷ codes "resumable" ∷ []
+unserved_uploads = codes "resumable" ∷ []
 
 -- the text is one of these
 abbrev pub is_among : List (List ℕ) → List ℕ → Bool

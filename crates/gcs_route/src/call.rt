@@ -1,8 +1,8 @@
 //! What a request asks for.
 ghost use Rattle.std.specs.Prelude.{◌≡◌, IfOk};
 ghost use Rattle.gcs_route.specs.Calls.{IsSameCall};
-ghost use Rattle.gcs_route.specs.Kinds.{kind_of};
 ghost use Rattle.gcs_route.specs.Masks.{IsSameMask};
+ghost use Rattle.gcs_route.specs.OfCall.{first_bucket, first_object, last_bucket, last_object, request_kind, NamesBucket, NamesObject};
 
 use crate::kind::{RequestKind, kind_of};
 use gcs_fields::Mask;
@@ -92,9 +92,53 @@ pub struct Call {
 impl Call {
     /// Which request it is.
     pub fn kind(&self) -> RequestKind
-        ensures { result ≡ kind_of self.now.row }
+        ensures { result ≡ request_kind self.now }
     {
         kind_of(self.row)
+    }
+
+    /// The first bucket that the path names.
+    pub fn bucket(&self) -> &BucketName
+        requires { NamesBucket self.now }
+        ensures { result.now ≡ first_bucket self.now }
+    {
+        match self.buckets.get(0) {
+            Some(name) => name,
+            None => unreachable!(),
+        }
+    }
+
+    /// The first object that the path names.
+    pub fn object(&self) -> &Name
+        requires { NamesObject self.now }
+        ensures { result.now ≡ first_object self.now }
+    {
+        match self.objects.get(0) {
+            Some(name) => name,
+            None => unreachable!(),
+        }
+    }
+
+    /// The last bucket that the path names: of a copy that of its destination.
+    pub fn last_bucket(&self) -> &BucketName
+        requires { NamesBucket self.now }
+        ensures { result.now ≡ last_bucket self.now }
+    {
+        match self.buckets.get(self.buckets.len() - 1) {
+            Some(name) => name,
+            None => unreachable!(),
+        }
+    }
+
+    /// The last object that the path names: of a copy its destination.
+    pub fn last_object(&self) -> &Name
+        requires { NamesObject self.now }
+        ensures { result.now ≡ last_object self.now }
+    {
+        match self.objects.get(self.objects.len() - 1) {
+            Some(name) => name,
+            None => unreachable!(),
+        }
     }
 
     /// The same call, up to how its mask is held. `Err`: no memory.

@@ -1,6 +1,6 @@
 //! The requests of the interface, by their names.
 ghost use Rattle.std.specs.Prelude.{◌≡◌};
-ghost use Rattle.gcs_route.specs.Kinds.{row_of, kind_of};
+ghost use Rattle.gcs_route.specs.Kinds.{row_of, kind_of, is_upload};
 
 use RequestKind::*;
 
@@ -65,9 +65,17 @@ impl RequestKind {
             Download => 21,
         }
     }
+
+    /// Whether the request uploads a whole object, or begins an upload.
+    pub fn is_upload(self) -> bool
+        ensures { result ≡ is_upload self }
+    {
+        matches!(self, Upload)
+    }
 }
 
 /// The request of that row. Of a number that no row has it is `Download`.
+#[tactic(auto, unfolding(crate::specs::Kinds::kind_of))]
 pub(crate) fn kind_of(row: u32) -> RequestKind
     ensures { result ≡ kind_of row }
 {

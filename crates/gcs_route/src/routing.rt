@@ -18,7 +18,7 @@ use crate::naming::read_names;
 use crate::pairs::{QueryPairs, read_pairs};
 use crate::params::read_params;
 use crate::paths::{find_route, has_path, path_of, query_of, segments};
-use crate::served::{check_served, is_upload};
+use crate::served::check_served;
 use crate::table::{Param, Route, all_routes};
 use gcs_meaning::{BucketName, Key, List, Name, Pre, Reason, Text, key_text};
 use std::alloc::Global;
@@ -86,7 +86,7 @@ fn route_by(route: &Route, pairs: &QueryPairs) -> Route
 fn is_piece(kind: RequestKind, pairs: &QueryPairs) -> bool
     ensures { result ≡ (is_upload kind && not (bytes_eq (text_at (pairs_in pairs.now) Key.UploadId) [])) }
 {
-    is_upload(kind) && !pairs.value(key_text(Key::UploadId)).is_empty()
+    kind.is_upload() && !pairs.value(key_text(Key::UploadId)).is_empty()
 }
 
 // The call with its names.

@@ -1,6 +1,5 @@
 //! Which requests are served, of those that the table has.
 ghost use Rattle.std.specs.Prelude.{◌≡◌, map, true, false, OnOk, IfErr};
-ghost use Rattle.gcs_route.specs.Kinds.{is_upload};
 ghost use Rattle.gcs_route.specs.Pairs.{pairs_in};
 ghost use Rattle.gcs_route.specs.Served.{is_served, unserved_uploads, is_among, is_unserved};
 
@@ -13,7 +12,7 @@ use gcs_meaning::{Key, Reason, key_text};
 fn unserved_uploads() -> &'static [&'static str]
     ensures { map (λ upload. upload.now) result.now ≡ unserved_uploads }
 {
-    &["multipart", "resumable"]
+    &["resumable"]
 }
 
 /// Refuses a request of that kind with these pairs which is not served.
@@ -31,7 +30,7 @@ fn is_unserved(kind: RequestKind, pairs: &QueryPairs) -> bool
     ensures { result ≡ is_unserved (pairs_in pairs.now) kind }
 {
     !is_served(kind)
-        || is_upload(kind) && is_among(unserved_uploads(), pairs.value(key_text(Key::UploadType)))
+        || kind.is_upload() && is_among(unserved_uploads(), pairs.value(key_text(Key::UploadType)))
 }
 
 fn is_served(kind: RequestKind) -> bool
@@ -40,23 +39,9 @@ fn is_served(kind: RequestKind) -> bool
     use RequestKind::*;
 
     match kind {
-        BucketLock
-        | BucketRestore
-        | ObjectCompose
-        | ObjectRewrite
-        | ObjectCopy
-        | ObjectRestore
-        | UploadPiece
-        | UploadCancel => false,
+        UploadPiece | UploadCancel => false,
         _ => true,
     }
-}
-
-/// Whether the request uploads a whole object, or begins an upload.
-pub(crate) fn is_upload(kind: RequestKind) -> bool
-    ensures { result ≡ is_upload kind }
-{
-    matches!(kind, RequestKind::Upload)
 }
 
 fn is_among(texts: &[&str], bytes: &[u8]) -> bool
