@@ -1,2 +1,4 @@
 pub mod Inserted
 pub mod Allowed
+pub mod Lines
+pub mod RewriteTokens

@@ -1,5 +1,5 @@
 -- What a request says of the answer to its command.
-use Rattle.std.specs.Prelude.{ℕ, ◌==◌, ◌&&◌, ◌||◌, Bool, true, false, length, Option, Some, None, if◌then◌else◌}
+use Rattle.std.specs.Prelude.{ℕ, ◌&&◌, Bool, true, false, length, Option, Some, None, if◌then◌else◌}
 use Rattle.gcs_meaning.specs.declared.reason.Key.{Key}
 use Rattle.gcs_meaning.specs.declared.reason.Key.TheVariants.{IfGenerationNotMatch, IfMetagenerationNotMatch}
 use Rattle.gcs_meaning.specs.declared.reason.Reason.{Reason}
@@ -10,6 +10,9 @@ use Rattle.gcs_meaning.specs.declared.command.Answer.{Answer}
 use Rattle.gcs_meaning.specs.declared.command.Answer.TheVariants as answer
 use Rattle.gcs_meaning.specs.Content.{bytes_in}
 use Rattle.gcs_route.specs.declared.call.Call.{Call}
+use Rattle.gcs_route.specs.declared.kind.RequestKind.{RequestKind}
+use Rattle.gcs_route.specs.declared.kind.RequestKind.TheVariants.{BucketGet, ObjectGet, Download}
+use Rattle.gcs_route.specs.OfCall.{request_kind}
 use Rattle.gcs_rewrite.specs.declared.range.Range.{Range}
 use Rattle.gcs_rewrite.specs.declared.request.Given.{Given}
 use Rattle.gcs_rewrite.specs.declared.request.Given.TheVariants as given
@@ -36,9 +39,12 @@ range_given _ = None
 abbrev pub object_reply : Call → Given → Row → Settings → Reply
 object_reply call given row settings = if call.media then range_reply (range_given given) row else reply.Object row settings
 
--- the requests of the row read a bucket or a version
-abbrev pub is_read : ℕ → Bool
-is_read row = (row == 3) || ((row == 10) || (row == 21))
+-- the request reads a bucket or a version
+abbrev pub is_read : RequestKind → Bool
+is_read BucketGet = true
+is_read ObjectGet = true
+is_read Download = true
+is_read _ = false
 
 -- a precondition that holds where the number is another one
 abbrev pub is_not_match : Key → Bool
@@ -47,13 +53,13 @@ is_not_match IfMetagenerationNotMatch = true
 is_not_match _ = false
 
 -- what is read has the very number that the reader has (RFC 9110, 13.1.2)
-abbrev pub is_unchanged : ℕ → Reason → Bool
-is_unchanged row (Condition which wanted found) = is_read row && is_not_match which
-is_unchanged row _ = false
+abbrev pub is_unchanged : RequestKind → Reason → Bool
+is_unchanged kind (Condition which wanted found) = is_read kind && is_not_match which
+is_unchanged kind _ = false
 
--- what a call on the row says of a refusal
-abbrev pub refused_reply : ℕ → Reason → Reply
-refused_reply row reason = if is_unchanged row reason then reply.NotModified else reply.Refused reason
+-- what a call of that kind says of a refusal
+abbrev pub refused_reply : RequestKind → Reason → Reply
+refused_reply kind reason = if is_unchanged kind reason then reply.NotModified else reply.Refused reason
 
 -- what a call says of the answer to its command. Such a command gets no answer of another kind
 abbrev pub reply_of : Call → Given → Answer → Reply
@@ -61,5 +67,5 @@ reply_of call given (answer.Object row settings) = object_reply call given row s
 reply_of call given (answer.Bucket row) = reply.Bucket row
 reply_of call given answer.Empty = reply.NoContent
 reply_of call given (answer.Page page) = reply.Page page
-reply_of call given (answer.Refused reason) = refused_reply call.row reason
+reply_of call given (answer.Refused reason) = refused_reply (request_kind call) reason
 reply_of call given _ = reply.Refused NotBuilt

@@ -1,102 +1,123 @@
 -- What a call asks the store: its one command.
-use Rattle.std.specs.Prelude.{◌==◌, unwrap_or, false, ℕ, List, [], ◌∷◌, Option, Some, None, if◌then◌else◌}
-use Rattle.gcs_meaning.specs.declared.reason.Reason.TheVariants.{NotBuilt}
-use Rattle.gcs_meaning.specs.declared.settings.Meta.{Meta}
-use Rattle.gcs_meaning.specs.declared.version.Expect.{Expect}
+use Rattle.std.specs.Prelude.{unwrap_or, Bool, true, false, ℕ, List, [], Option, None}
+use Rattle.std.specs.Option.{option_or}
 use Rattle.gcs_meaning.specs.declared.command.Command.{Command}
-use Rattle.gcs_meaning.specs.declared.command.Command.TheVariants.{BucketInsert, BucketGet, BucketChange, BucketDelete, List as Listing, Change, Delete, Get, Put}
+use Rattle.gcs_meaning.specs.declared.command.Command.TheVariants as command
 use Rattle.gcs_meaning.specs.Content.{Digested}
 use Rattle.gcs_meaning.specs.Moment.{shard_number}
-use Rattle.gcs_meaning.specs.ObjectChange.{default_content_type}
 use Rattle.gcs_json.specs.declared.bucket.BucketBody.{BucketBody}
 use Rattle.gcs_json.specs.declared.object.ObjectBody.{ObjectBody}
+use Rattle.gcs_json.specs.declared.compose.ComposeBody.{ComposeBody}
 use Rattle.gcs_route.specs.declared.call.Call.{Call}
+use Rattle.gcs_route.specs.declared.kind.RequestKind.{RequestKind}
+use Rattle.gcs_route.specs.declared.kind.RequestKind.TheVariants.{BucketInsert, BucketGet, BucketUpdate, BucketDelete, BucketLock, BucketRestore, ObjectUpdate, ObjectDelete, ObjectRestore}
+use Rattle.gcs_route.specs.OfCall.{first_bucket, first_object, request_kind}
 use Rattle.gcs_rewrite.specs.declared.request.Given.{Given}
 use Rattle.gcs_rewrite.specs.declared.request.Given.TheVariants as given
 use Rattle.gcs_rewrite.specs.declared.moves.Move.{Move}
-use Rattle.gcs_rewrite.specs.declared.moves.Move.TheVariants.{Ask, Say}
-use Rattle.gcs_rewrite.specs.declared.replies.Reply.TheVariants as reply
+use Rattle.gcs_rewrite.specs.declared.moves.Move.TheVariants.{Ask}
 use Rattle.gcs_rewrite.specs.Inserts.{inserted_settings}
 use Rattle.gcs_rewrite.specs.Lists.{query_of}
+use Rattle.gcs_rewrite.specs.Made.{made_meta}
 
--- no expected digests
-abbrev pub no_expect : Expect
-no_expect = record { crc = None; md5 = None }
-
--- metadata with a content type and a content encoding, and nothing else
-abbrev pub upload_meta : Option (List ℕ) → Option (List ℕ) → Meta
-upload_meta kind encoding = record {
-  content_type = unwrap_or kind default_content_type;
-  cache_control = None;
-  content_disposition = None;
-  content_encoding = encoding;
-  content_language = None;
-  storage_class = None;
-  custom_time = None;
-  temporary_hold = false;
-  event_hold = None;
-  custom = [];
-}
+-- a step under a bucket
+abbrev pub ask_in : List ℕ → Command → Move
+ask_in bucket command = Ask (shard_number bucket) command
 
 -- a step under the first bucket of the path
-abbrev pub on_bucket : List (List ℕ) → (List ℕ → Command) → Move
-on_bucket [] command = Say (reply.Refused NotBuilt)
-on_bucket (bucket ∷ _) command = Ask (shard_number bucket) (command bucket)
+abbrev pub on_bucket : Call → (List ℕ → Command) → Move
+on_bucket call command = ask_in (first_bucket call) (command (first_bucket call))
 
 -- a step on the first object of the path, in the first bucket
-abbrev pub on_object : Call → List (List ℕ) → (List ℕ → List ℕ → Command) → Move
-on_object call [] command = Say (reply.Refused NotBuilt)
-on_object call (name ∷ _) command = on_bucket call.buckets (λ bucket. command bucket name)
+abbrev pub on_object : Call → (List ℕ → List ℕ → Command) → Move
+on_object call command = on_bucket call (λ bucket. command bucket (first_object call))
+
+-- the request sets all that a patch sets in part (Cloud Storage JSON API, "Buckets: update" and "Objects: update")
+abbrev pub sets_all : RequestKind → Bool
+sets_all BucketUpdate = true
+sets_all ObjectUpdate = true
+sets_all _ = false
 
 -- the read of a version
 abbrev pub get_move : Call → Move
-get_move call = on_object call call.objects (λ bucket name. Get bucket name call.generation call.soft call.pre)
+get_move call = on_object call (λ bucket name. command.Get bucket name call.generation call.soft call.pre)
 
 -- the deletion of a version
 abbrev pub delete_move : Call → Move
-delete_move call = on_object call call.objects (λ bucket name. Delete bucket name call.generation call.pre)
+delete_move call = on_object call (λ bucket name. command.Delete bucket name call.generation call.pre)
 
--- the change of a version's metadata: a PUT sets all of them
+-- the change of a version's metadata
 abbrev pub change_move : Call → ObjectBody → Move
-change_move call body = on_object call call.objects (λ bucket name. Change bucket name call.generation call.pre body.change (call.row == 12))
+change_move call body =
+    on_object call (λ bucket name. command.Change bucket name call.generation call.pre body.change (sets_all (request_kind call)))
 
--- the upload of a whole content, by the name of the query
-abbrev pub put_move : Call → Option (List ℕ) → Option (List ℕ) → Digested → Move
-put_move call None kind hashed = Say (reply.Refused NotBuilt)
-put_move call (Some name) kind hashed =
-    on_bucket call.buckets (λ bucket. Put bucket name call.pre (upload_meta kind call.encoding) hashed None no_expect)
+-- the name of an upload: that of the query, else that of the body
+abbrev pub upload_name : Call → ObjectBody → Option (List ℕ)
+upload_name call body = option_or call.name body.name
+
+-- the upload of a whole content, with what the body says of the object
+abbrev pub put_move : Call → ObjectBody → Option (List ℕ) → Digested → Move
+put_move call body kind hashed = on_bucket call (λ bucket.
+    command.Put bucket (unwrap_or (upload_name call body) []) call.pre (made_meta body kind call.encoding) hashed None body.expect)
+
+-- the bucket that a body names
+abbrev pub bucket_named : BucketBody → List ℕ
+bucket_named body = unwrap_or body.name []
 
 -- the insert of the bucket that the body names
-abbrev pub insert_move : Option (List ℕ) → BucketBody → Move
-insert_move None body = Say (reply.Refused NotBuilt)
-insert_move (Some bucket) body = Ask (shard_number bucket) (BucketInsert bucket (inserted_settings body))
+abbrev pub insert_move : BucketBody → Move
+insert_move body = ask_in (bucket_named body) (command.BucketInsert (bucket_named body) (inserted_settings body))
 
--- the change of the bucket of the path: a PUT sets all its settings
+-- the change of the bucket of the path
 abbrev pub bucket_change_move : Call → BucketBody → Move
-bucket_change_move call body = on_bucket call.buckets (λ bucket. BucketChange bucket call.pre body.change (call.row == 5))
+bucket_change_move call body = on_bucket call (λ bucket. command.BucketChange bucket call.pre body.change (sets_all (request_kind call)))
 
--- the command of a call with a bucket's body, by its row of the table
-abbrev pub bucket_move : Call → BucketBody → Move
-bucket_move call body = if call.row == 1 then insert_move body.name body else bucket_change_move call body
+-- the command of a call with a bucket's body: its insert, or its change
+abbrev pub bucket_move : RequestKind → Call → BucketBody → Move
+bucket_move BucketInsert call body = insert_move body
+bucket_move _ call body = bucket_change_move call body
 
 -- the list of a bucket's objects
 abbrev pub list_move : Call → Move
-list_move call = on_bucket call.buckets (λ bucket. Listing bucket (query_of call))
+list_move call = on_bucket call (λ bucket. command.List bucket (query_of call))
 
--- the command of a call that gives nothing beside it: by its row of the table, the read of a bucket, its deletion, that of a
--- version, or a list of objects
-abbrev pub bare_move : Call → Move
-bare_move call =
-    if call.row == 3 then on_bucket call.buckets (λ bucket. BucketGet bucket call.pre)
-    else if call.row == 6 then on_bucket call.buckets (λ bucket. BucketDelete bucket call.pre)
-    else if call.row == 13 then delete_move call
-    else if call.row == 9 then list_move call
-    else Say (reply.Refused NotBuilt)
+-- the lock of the bucket's retention policy
+abbrev pub lock_move : Call → Move
+lock_move call = on_bucket call (λ bucket. command.BucketLock bucket call.pre)
+
+-- the generation that a restore must name
+abbrev pub generation_named : Call → ℕ
+generation_named call = unwrap_or call.generation 0
+
+-- the restore of a deleted bucket
+abbrev pub bucket_restore_move : Call → Move
+bucket_restore_move call = on_bucket call (λ bucket. command.BucketRestore bucket (generation_named call))
+
+-- the restore of a soft-deleted version
+abbrev pub restore_move : Call → Move
+restore_move call = on_object call (λ bucket name. command.Restore bucket name (generation_named call) call.pre)
+
+-- the version of the sources' bytes, with what the body says of it
+abbrev pub compose_move : Call → ComposeBody → Move
+compose_move call body =
+    on_object call (λ bucket name. command.Compose bucket name call.pre (made_meta body.destination None None) body.parts)
+
+-- the command of a call that gives nothing beside it: the read of a bucket, its deletion, the lock of its policy, its restore, the
+-- deletion of a version, its restore, or else a list of objects
+abbrev pub bare_move : RequestKind → Call → Move
+bare_move BucketGet call = on_bucket call (λ bucket. command.BucketGet bucket call.pre)
+bare_move BucketDelete call = on_bucket call (λ bucket. command.BucketDelete bucket call.pre)
+bare_move BucketLock call = lock_move call
+bare_move BucketRestore call = bucket_restore_move call
+bare_move ObjectDelete call = delete_move call
+bare_move ObjectRestore call = restore_move call
+bare_move _ call = list_move call
 
 -- the one command of a call
 abbrev pub first_move : Call → Given → Move
-first_move call given.Nothing = bare_move call
+first_move call given.Nothing = bare_move (request_kind call) call
 first_move call (given.Read range) = get_move call
-first_move call (given.Whole kind hashed) = put_move call call.name kind hashed
-first_move call (given.Bucket body) = bucket_move call body
+first_move call (given.Whole body kind hashed) = put_move call body kind hashed
+first_move call (given.Bucket body) = bucket_move (request_kind call) call body
 first_move call (given.Object body) = change_move call body
+first_move call (given.Compose body) = compose_move call body

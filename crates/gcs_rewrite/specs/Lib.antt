@@ -1,6 +1,11 @@
 pub mod Ranges
+pub mod Tokens
+pub mod Fits
 pub mod Inserts
 pub mod Lists
+pub mod Made
+pub mod CopyMeta
 pub mod Commands
 pub mod Answered
+pub mod Copies
 pub mod Scripts

@@ -1,6 +1,6 @@
 -- Lists of objects and of buckets: what is asked for a page, and what is said of it (Cloud Storage JSON API, "Objects: list" and
 -- "Buckets: list").
-use Rattle.std.specs.Prelude.{ℕ, ◌+◌, ◌-◌, min, unwrap_or, Bool, List, [], ◌∷◌, length, nat_lt, take, slice_get, Option, Some, None, option_map, if◌then◌else◌}
+use Rattle.std.specs.Prelude.{ℕ, ◌+◌, ◌-◌, unwrap_or, Bool, List, [], ◌∷◌, length, nat_lt, take, slice_get, Option, Some, None, option_map, if◌then◌else◌}
 use Rattle.gcs_meaning.specs.declared.command.Answer.{Answer}
 use Rattle.gcs_meaning.specs.declared.command.Answer.TheVariants as answer
 use Rattle.gcs_meaning.specs.declared.command.Command.{Command}
@@ -46,13 +46,9 @@ abbrev pub name_asked : Option (List ℕ) → List ℕ
 name_asked None = []
 name_asked (Some token) = unwrap_or (bucket_of_token token) []
 
--- one more than a page has, so that it shows whether more are left
-abbrev pub most_asked : ℕ → ℕ
-most_asked most = min most 1000 + 1
-
--- what a list of buckets asks of a shard
+-- what a list of buckets asks of a shard: one more than a page has, so that it shows whether more are left
 abbrev pub list_of_shard : Call → ℕ → Command
-list_of_shard call shard = BucketList shard call.prefix (name_asked call.page_token) (most_asked call.most)
+list_of_shard call shard = BucketList shard call.prefix (name_asked call.page_token) (call.most + 1)
 
 -- the buckets with one more, before the first whose name comes after its own
 abbrev pub with_listed : BucketRow → List BucketRow → List BucketRow

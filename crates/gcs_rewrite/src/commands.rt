@@ -1,80 +1,67 @@
 //! What a call asks the store: its one command.
-ghost use Rattle.std.specs.Prelude.{◌≡◌, IfOk, unwrap_or};
-ghost use Rattle.gcs_meaning.specs.Moment.{shard_number};
-ghost use Rattle.gcs_meaning.specs.ObjectChange.{default_content_type};
-ghost use Rattle.gcs_rewrite.specs.Commands.{bare_move, bucket_change_move, bucket_move, change_move, delete_move, first_move, get_move, insert_move, list_move, no_expect, put_move, upload_meta};
+ghost use Rattle.std.specs.Prelude.{◌≡◌, IfOk, IsSome};
+ghost use Rattle.std.specs.Option.{option_copied};
+ghost use Rattle.gcs_route.specs.OfCall.{request_kind, NamesBucket, NamesObject};
+ghost use Rattle.gcs_rewrite.specs.Commands.{bare_move, bucket_change_move, bucket_move, change_move, compose_move, delete_move, first_move, get_move, insert_move, list_move, put_move, sets_all, upload_name};
+ghost use Rattle.gcs_rewrite.specs.Fits.{HasOneStep};
 
 use crate::inserts::inserted_settings;
 use crate::lists::query_of;
-use crate::moves::Move;
-use crate::replies::Reply;
+use crate::made::made_meta;
+use crate::moves::{Move, ask};
 use crate::request::Given;
-use gcs_json::{BucketBody, ObjectBody};
-use gcs_meaning::{
-    BucketName, Command, Copied, Expect, Hashed, Meta, Name, Pairs, Reason, Text, shard_of,
-};
-use gcs_route::Call;
+use crate::restores::{ask_bucket_restore, ask_lock, ask_restore};
+use gcs_json::{BucketBody, ComposeBody, ObjectBody};
+use gcs_meaning::{Command, Copied, Hashed, Name, Text};
+use gcs_route::{Call, RequestKind};
 use std::alloc::{AllocError, Global};
 
-/// The command of a call, or that it is not built. `Err`: no memory.
+/// The command of a request with one step. `Err`: no memory.
 pub fn first_move(alloc: Global, call: &Call, given: &Given) -> Result<Move, AllocError>
+    requires { HasOneStep call.now given.now }
     ensures { IfOk result (λ next. next ≡ first_move call.now given.now) }
 {
     match given {
         Given::Nothing => ask_bare(alloc, call),
         Given::Read { .. } => ask_get(call),
-        Given::Whole { kind, hashed } => ask_put(alloc, call, kind, hashed),
+        Given::Whole { body, kind, hashed } => ask_put(alloc, call, body, kind, hashed),
         Given::Bucket(body) => ask_bucket(alloc, call, body),
         Given::Object(body) => ask_change(call, body),
-    }
-}
-
-fn not_built() -> Move
-    ensures { result ≡ Move.Say (Reply.Refused Reason.NotBuilt) }
-{
-    Move::Say(Reply::Refused(Reason::NotBuilt))
-}
-
-// A step in the shard of that bucket.
-fn ask(bucket: &BucketName, command: Command) -> Move
-    ensures { result ≡ Move.Ask (shard_number bucket.now) command }
-{
-    Move::Ask {
-        shard: shard_of(bucket.as_bytes()),
-        command,
+        Given::Compose(body) => ask_compose(alloc, call, body),
     }
 }
 
 // The command of a call that gives nothing beside it.
 fn ask_bare(alloc: Global, call: &Call) -> Result<Move, AllocError>
-    ensures { IfOk result (λ next. next ≡ bare_move call.now) }
+    requires { HasOneStep call.now Given.Nothing }
+    ensures { IfOk result (λ next. next ≡ bare_move (request_kind call.now) call.now) }
 {
-    let Some(name) = call.buckets.get(0) else {
-        return Ok(not_built());
-    };
+    let name = call.bucket();
     let pre = call.pre;
-    match call.row {
-        3 => {
+    match call.kind() {
+        RequestKind::BucketGet => {
             let bucket = name.copy()?;
             Ok(ask(name, Command::BucketGet { bucket, pre }))
         }
-        6 => {
+        RequestKind::BucketDelete => {
             let bucket = name.copy()?;
             Ok(ask(name, Command::BucketDelete { bucket, pre }))
         }
-        9 => ask_list(alloc, call),
-        13 => ask_delete(call),
-        _ => Ok(not_built()),
+        RequestKind::BucketLock => ask_lock(call),
+        RequestKind::BucketRestore => ask_bucket_restore(call),
+        RequestKind::ObjectList => ask_list(alloc, call),
+        RequestKind::ObjectDelete => ask_delete(call),
+        RequestKind::ObjectRestore => ask_restore(call),
+        _ => unreachable!(),
     }
 }
 
 // The list of a bucket's objects.
 fn ask_list(alloc: Global, call: &Call) -> Result<Move, AllocError>
+    requires { NamesBucket call.now }
     ensures { IfOk result (λ next. next ≡ list_move call.now) }
 {
-    let Some(place) = call.buckets.get(0) else {
-        return Ok(not_built());
-    };
+    let place = call.bucket();
     let bucket = place.copy()?;
     let query = query_of(alloc, call)?;
     Ok(ask(place, Command::List { bucket, query }))
@@ -82,13 +69,12 @@ fn ask_list(alloc: Global, call: &Call) -> Result<Move, AllocError>
 
 // The deletion of a version.
 fn ask_delete(call: &Call) -> Result<Move, AllocError>
+    requires { NamesObject call.now }
     ensures { IfOk result (λ next. next ≡ delete_move call.now) }
 {
-    let (Some(place), Some(name)) = (call.buckets.get(0), call.objects.get(0)) else {
-        return Ok(not_built());
-    };
+    let place = call.bucket();
     let bucket = place.copy()?;
-    let name = name.copy()?;
+    let name = call.object().copy()?;
     Ok(ask(
         place,
         Command::Delete {
@@ -102,13 +88,12 @@ fn ask_delete(call: &Call) -> Result<Move, AllocError>
 
 // The change of a version's metadata.
 fn ask_change(call: &Call, body: &ObjectBody) -> Result<Move, AllocError>
+    requires { NamesObject call.now }
     ensures { IfOk result (λ next. next ≡ change_move call.now body.now) }
 {
-    let (Some(place), Some(name)) = (call.buckets.get(0), call.objects.get(0)) else {
-        return Ok(not_built());
-    };
+    let place = call.bucket();
     let bucket = place.copy()?;
-    let name = name.copy()?;
+    let name = call.object().copy()?;
     let change = body.change.copy()?;
     Ok(ask(
         place,
@@ -118,27 +103,35 @@ fn ask_change(call: &Call, body: &ObjectBody) -> Result<Move, AllocError>
             generation: call.generation,
             pre: call.pre,
             change,
-            whole: call.row == 12,
+            whole: sets_all(call.kind()),
         },
     ))
 }
 
+// Whether the request sets all that a patch sets in part.
+fn sets_all(kind: RequestKind) -> bool
+    ensures { result ≡ sets_all kind }
+{
+    matches!(kind, RequestKind::BucketUpdate | RequestKind::ObjectUpdate)
+}
+
 // The insert of a bucket, or its change.
 fn ask_bucket(alloc: Global, call: &Call, body: &BucketBody) -> Result<Move, AllocError>
-    ensures { IfOk result (λ next. next ≡ bucket_move call.now body.now) }
+    requires { HasOneStep call.now (Given.Bucket body.now) }
+    ensures { IfOk result (λ next. next ≡ bucket_move (request_kind call.now) call.now body.now) }
 {
-    if call.row == 1 {
-        ask_insert(alloc, body)
-    } else {
-        ask_bucket_change(call, body)
+    match call.kind() {
+        RequestKind::BucketInsert => ask_insert(alloc, body),
+        _ => ask_bucket_change(call, body),
     }
 }
 
 fn ask_insert(alloc: Global, body: &BucketBody) -> Result<Move, AllocError>
-    ensures { IfOk result (λ next. next ≡ insert_move body.now.name body.now) }
+    requires { IsSome body.now.name }
+    ensures { IfOk result (λ next. next ≡ insert_move body.now) }
 {
     let Some(name) = &body.name else {
-        return Ok(not_built());
+        unreachable!()
     };
     let bucket = name.copy()?;
     let settings = inserted_settings(alloc, body)?;
@@ -146,11 +139,10 @@ fn ask_insert(alloc: Global, body: &BucketBody) -> Result<Move, AllocError>
 }
 
 fn ask_bucket_change(call: &Call, body: &BucketBody) -> Result<Move, AllocError>
+    requires { NamesBucket call.now }
     ensures { IfOk result (λ next. next ≡ bucket_change_move call.now body.now) }
 {
-    let Some(name) = call.buckets.get(0) else {
-        return Ok(not_built());
-    };
+    let name = call.bucket();
     let bucket = name.copy()?;
     let change = body.change.copy()?;
     Ok(ask(
@@ -159,19 +151,18 @@ fn ask_bucket_change(call: &Call, body: &BucketBody) -> Result<Move, AllocError>
             bucket,
             pre: call.pre,
             change,
-            whole: call.row == 5,
+            whole: sets_all(call.kind()),
         },
     ))
 }
 
 fn ask_get(call: &Call) -> Result<Move, AllocError>
+    requires { NamesObject call.now }
     ensures { IfOk result (λ next. next ≡ get_move call.now) }
 {
-    let (Some(place), Some(name)) = (call.buckets.get(0), call.objects.get(0)) else {
-        return Ok(not_built());
-    };
+    let place = call.bucket();
     let bucket = place.copy()?;
-    let name = name.copy()?;
+    let name = call.object().copy()?;
     Ok(ask(
         place,
         Command::Get {
@@ -184,20 +175,25 @@ fn ask_get(call: &Call) -> Result<Move, AllocError>
     ))
 }
 
+// The upload of a whole content, by the name of the query, else by that of the body.
 fn ask_put(
     alloc: Global,
     call: &Call,
+    body: &ObjectBody,
     kind: &Option<Text>,
     hashed: &Hashed,
 ) -> Result<Move, AllocError>
-    ensures { IfOk result (λ next. next ≡ put_move call.now call.now.name kind.now hashed.now) }
+    requires bucket { NamesBucket call.now }
+    requires name { IsSome (upload_name call.now body.now) }
+    ensures { IfOk result (λ next. next ≡ put_move call.now body.now kind.now hashed.now) }
 {
-    let (Some(place), Some(name)) = (call.buckets.get(0), &call.name) else {
-        return Ok(not_built());
+    let Some(name) = upload_name(call, body) else {
+        unreachable!()
     };
+    let place = call.bucket();
     let bucket = place.copy()?;
     let name = Name::new(name.copy()?);
-    let meta = upload_meta(alloc, kind, &call.encoding)?;
+    let meta = made_meta(alloc, body, kind, &call.encoding)?;
     let hashed = hashed.copy()?;
     Ok(ask(
         place,
@@ -208,46 +204,38 @@ fn ask_put(
             meta,
             hashed,
             components: None,
-            expect: no_expect(),
+            expect: body.expect,
         },
     ))
 }
 
-fn no_expect() -> Expect
-    ensures { result ≡ no_expect }
+fn upload_name<'a>(call: &'a Call, body: &'a ObjectBody) -> Option<&'a Text>
+    ensures { option_copied result ≡ upload_name call.now body.now }
 {
-    Expect {
-        crc: None,
-        md5: None,
+    match (&call.name, &body.name) {
+        (Some(name), _) | (None, Some(name)) => Some(name),
+        (None, None) => None,
     }
 }
 
-fn upload_meta(
-    alloc: Global,
-    kind: &Option<Text>,
-    encoding: &Option<Text>,
-) -> Result<Meta, AllocError>
-    ensures { IfOk result (λ meta. meta ≡ upload_meta kind.now encoding.now) }
+// The version of the sources' bytes, with what the body says of it.
+fn ask_compose(alloc: Global, call: &Call, body: &ComposeBody) -> Result<Move, AllocError>
+    requires { NamesObject call.now }
+    ensures { IfOk result (λ next. next ≡ compose_move call.now body.now) }
 {
-    Ok(Meta {
-        content_type: type_of(alloc, kind)?,
-        cache_control: None,
-        content_disposition: None,
-        content_encoding: encoding.copy()?,
-        content_language: None,
-        storage_class: None,
-        custom_time: None,
-        temporary_hold: false,
-        event_hold: None,
-        custom: Pairs::new(alloc),
-    })
-}
-
-fn type_of(alloc: Global, kind: &Option<Text>) -> Result<Text, AllocError>
-    ensures { IfOk result (λ made. made ≡ unwrap_or kind.now default_content_type) }
-{
-    match kind {
-        Some(kind) => kind.copy(),
-        None => Text::from_str(alloc, "application/octet-stream"),
-    }
+    let place = call.bucket();
+    let bucket = place.copy()?;
+    let name = call.object().copy()?;
+    let meta = made_meta(alloc, &body.destination, &None, &None)?;
+    let parts = body.parts.copy()?;
+    Ok(ask(
+        place,
+        Command::Compose {
+            bucket,
+            name,
+            pre: call.pre,
+            meta,
+            parts,
+        },
+    ))
 }

@@ -3,7 +3,7 @@ ghost use Rattle.std.specs.Prelude.{◌≡◌, IfOk, None, unwrap_or};
 ghost use Rattle.gcs_rewrite.specs.Inserts.{default_location, inserted_settings, settings_at, usual_settings};
 
 use gcs_json::BucketBody;
-use gcs_meaning::{Copied, Pairs, Settings, Text};
+use gcs_meaning::{Copied, DEFAULT_CLASS, DEFAULT_SOFT_SECONDS, Pairs, Settings, Text};
 use std::alloc::{AllocError, Global};
 
 const DEFAULT_LOCATION: &str = "US";
@@ -33,13 +33,13 @@ fn settings_at(alloc: Global, location: &Option<Text>) -> Result<Settings, Alloc
 {
     Ok(Settings {
         location: location_of(alloc, location)?,
-        storage_class: Text::from_str(alloc, "STANDARD")?,
+        storage_class: Text::from_str(alloc, DEFAULT_CLASS)?,
         labels: Pairs::new(alloc),
         lifecycle: None,
         versioned: false,
         default_event_hold: false,
         retention: None,
-        soft_seconds: 604_800,
+        soft_seconds: DEFAULT_SOFT_SECONDS,
         soft_since: 0,
     })
 }

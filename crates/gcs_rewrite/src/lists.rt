@@ -1,18 +1,14 @@
 //! Lists of objects and of buckets: what is asked for a page, and what is said of the buckets that sixteen shards list.
 ghost use Rattle.std.specs.Prelude.{◌≡◌, ◌≤◌, IfOk, OnOk, length, take, insert};
-ghost use Rattle.gcs_meaning.specs.Order.{is_below};
+ghost use Rattle.gcs_route.specs.OfTable.{IsPageSize};
 ghost use Rattle.gcs_rewrite.specs.Lists.{buckets_script, list_of_shard, listed_in, name_asked, query_of, token_after, unit_asked, view_asked, with_all_listed, with_listed};
 
 use crate::moves::Move;
 use crate::replies::Reply;
-use gcs_listing::{TokenFault, read_bucket_token, read_token, write_bucket_token};
-use gcs_meaning::{Answer, BucketRow, Command, Copied, List, PageQuery, Text, Unit, View};
+use gcs_listing::{TokenFault, is_below, read_bucket_token, read_token, write_bucket_token};
+use gcs_meaning::{Answer, BucketRow, Command, Copied, List, PageQuery, SHARDS, Text, Unit, View};
 use gcs_route::Call;
 use std::alloc::{AllocError, Global};
-use std::cmp::Ordering;
-
-/// How many shards a store has.
-const SHARDS: usize = 16;
 
 /// What a list of objects asks for. `Err`: no memory.
 pub fn query_of(alloc: Global, call: &Call) -> Result<PageQuery, AllocError>
@@ -57,9 +53,10 @@ fn unit_asked(alloc: Global, token: &Option<Text>) -> Result<Option<Unit>, Alloc
 
 /// The next move of a list of buckets: it asks each shard in turn, and then says the page. `Err`: no memory.
 pub fn list_buckets(alloc: Global, call: &Call, answers: &[Answer]) -> Result<Move, AllocError>
+    requires { IsPageSize call.now.most }
     ensures { IfOk result (λ next. next ≡ buckets_script call.now answers.now) }
 {
-    if answers.len() < SHARDS {
+    if answers.len() < usize::from(SHARDS) {
         return ask_shard(alloc, call, answers.len() as u8);
     }
     let rows = listed_in(alloc, answers)?;
@@ -68,6 +65,7 @@ pub fn list_buckets(alloc: Global, call: &Call, answers: &[Answer]) -> Result<Mo
 }
 
 fn ask_shard(alloc: Global, call: &Call, shard: u8) -> Result<Move, AllocError>
+    requires { IsPageSize call.now.most }
     ensures { IfOk result (λ next. next ≡ Move.Ask shard (list_of_shard call.now shard)) }
 {
     let prefix = call.prefix.copy()?;
@@ -76,7 +74,7 @@ fn ask_shard(alloc: Global, call: &Call, shard: u8) -> Result<Move, AllocError>
         shard,
         prefix,
         after,
-        most: call.most.min(1000) + 1,
+        most: call.most + 1,
     };
     Ok(Move::Ask { shard, command })
 }
@@ -141,15 +139,6 @@ fn place_of(listed: &[BucketRow], row: &BucketRow) -> usize
         }
     }
     listed.len()
-}
-
-fn is_below(name: &[u8], other: &[u8]) -> bool
-    ensures { result ≡ is_below name.now other.now }
-{
-    match name.cmp(other) {
-        Ordering::Less => true,
-        Ordering::Equal | Ordering::Greater => false,
-    }
 }
 
 // A page of these buckets, with the token of its last one where more are left.

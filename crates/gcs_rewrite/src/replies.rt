@@ -4,8 +4,10 @@ ghost use Rattle.gcs_rewrite.specs.Answered.{is_not_match, is_read, is_unchanged
 
 use crate::range::Range;
 use crate::request::Given;
-use gcs_meaning::{Answer, BucketRow, Copied, Key, List, Page, Reason, Row, Settings, Text};
-use gcs_route::Call;
+use gcs_meaning::{
+    Answer, BucketRow, Copied, Key, List, Page, Reason, RewriteReply, Row, Settings, Text,
+};
+use gcs_route::{Call, RequestKind};
 use std::alloc::AllocError;
 
 /// What a request says.
@@ -18,7 +20,15 @@ pub enum Reply {
     Object(Row, Settings),
     Page(Page),
     /// The bytes of a version, or the part of them from the first of these places up to and with the last.
-    Media { row: Row, part: Option<(u64, u64)> },
+    Media {
+        row: Row,
+        part: Option<(u64, u64)>,
+    },
+    /// How far a rewrite has come and, once it is done, the version at its destination.
+    Rewritten {
+        reply: RewriteReply,
+        object: Option<(Row, Settings)>,
+    },
     NoContent,
     /// What is read has the very number that the reader has.
     NotModified,
@@ -33,16 +43,16 @@ pub fn say(call: &Call, given: &Given, answer: &Answer) -> Result<Reply, AllocEr
         Answer::Bucket(row) => Ok(Reply::Bucket(row.copy()?)),
         Answer::Empty => Ok(Reply::NoContent),
         Answer::Page(page) => Ok(Reply::Page(page.copy()?)),
-        Answer::Refused(reason) => Ok(say_refusal(call.row, *reason)),
+        Answer::Refused(reason) => Ok(say_refusal(call.kind(), *reason)),
         _ => Ok(Reply::Refused(Reason::NotBuilt)),
     }
 }
 
-// What a call on the row says of a refusal.
-fn say_refusal(row: u32, reason: Reason) -> Reply
-    ensures { result ≡ refused_reply row reason }
+// What a call of that kind says of a refusal.
+fn say_refusal(kind: RequestKind, reason: Reason) -> Reply
+    ensures { result ≡ refused_reply kind reason }
 {
-    if is_unchanged(row, reason) {
+    if is_unchanged(kind, reason) {
         Reply::NotModified
     } else {
         Reply::Refused(reason)
@@ -50,20 +60,22 @@ fn say_refusal(row: u32, reason: Reason) -> Reply
 }
 
 // Whether what is read has the very number that the reader has (RFC 9110, 13.1.2).
-fn is_unchanged(row: u32, reason: Reason) -> bool
-    ensures { result ≡ is_unchanged row reason }
+fn is_unchanged(kind: RequestKind, reason: Reason) -> bool
+    ensures { result ≡ is_unchanged kind reason }
 {
     match reason {
-        Reason::Condition { which, .. } => is_read(row) && is_not_match(which),
+        Reason::Condition { which, .. } => is_read(kind) && is_not_match(which),
         _ => false,
     }
 }
 
-// Whether the requests of a row read a bucket or a version.
-fn is_read(row: u32) -> bool
-    ensures { result ≡ is_read row }
+// Whether the request reads a bucket or a version.
+fn is_read(kind: RequestKind) -> bool
+    ensures { result ≡ is_read kind }
 {
-    matches!(row, 3 | 10 | 21)
+    use RequestKind::*;
+
+    matches!(kind, BucketGet | ObjectGet | Download)
 }
 
 fn is_not_match(which: Key) -> bool

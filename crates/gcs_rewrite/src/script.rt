@@ -1,28 +1,35 @@
 //! The script of a request: its moves, one after the other.
 ghost use Rattle.std.specs.Prelude.{◌≡◌, IfOk, length};
-ghost use Rattle.gcs_rewrite.specs.Scripts.{script, single_script, IsAskable, MayFollow};
+ghost use Rattle.gcs_rewrite.specs.Fits.{Fits, HasOneStep};
+ghost use Rattle.gcs_rewrite.specs.Scripts.{script, single_script, MayFollow};
 
 use crate::commands::first_move;
+use crate::copies::next_copy;
 use crate::lists::list_buckets;
 use crate::moves::Move;
 use crate::replies::say;
 use crate::request::{Given, Request};
 use gcs_meaning::Answer;
-use gcs_route::Call;
+use gcs_route::{Call, RequestKind};
 use std::alloc::{AllocError, Global};
 
 /// The next move of a request after these answers. A shard that is asked may be asked for its command, and a request
 /// asks sixteen times at most. `Err`: no memory.
 pub fn next(alloc: Global, request: &Request, answers: &[Answer]) -> Result<Move, AllocError>
-    requires { IsAskable request.now }
+    requires { Fits request.now }
     ensures next { IfOk result (λ next. next ≡ script request.now answers.now) }
     ensures allowed { IfOk result (λ next. MayFollow (length answers.now) next) }
 {
     let Request { call, given } = request;
-    if call.row == 2 {
-        list_buckets(alloc, call, answers)
-    } else {
-        next_single(alloc, call, given, answers)
+    match call.kind() {
+        RequestKind::BucketList => list_buckets(alloc, call, answers),
+        RequestKind::ObjectRewrite | RequestKind::ObjectCopy => {
+            let Given::Object(body) = given else {
+                unreachable!()
+            };
+            next_copy(alloc, call, body, answers)
+        }
+        _ => next_single(alloc, call, given, answers),
     }
 }
 
@@ -33,6 +40,7 @@ fn next_single(
     given: &Given,
     answers: &[Answer],
 ) -> Result<Move, AllocError>
+    requires { HasOneStep call.now given.now }
     ensures { IfOk result (λ next. next ≡ single_script call.now given.now answers.now) }
 {
     match answers {

@@ -1,40 +1,76 @@
 -- Each move is that of the script, and may come after the answers so far.
-use Rattle.std.proofs.Common.{◌≡◌, ◌∙◌, Bool, List, ap, sym, eq-eqb}
-use Rattle.std.specs.Prelude.{if◌then◌else◌}
-use Rattle.std.proofs.lemmas.Bool.{ne_eqb}
+use Rattle.std.proofs.Common.{◌≡◌, ◌≢◌, ◌∙◌, ◌⊎◌, inl, inr, List, ap, refl, sym}
 use Rattle.std.proofs.lemmas.Result.{IfOk-weaker}
 use Rattle.gcs_meaning.specs.declared.command.Answer.{Answer}
+use Rattle.gcs_json.specs.declared.object.ObjectBody.{ObjectBody}
+use Rattle.gcs_route.specs.declared.call.Call.{Call}
+use Rattle.gcs_route.specs.declared.kind.RequestKind.{RequestKind}
+use Rattle.gcs_route.specs.declared.kind.RequestKind.TheVariants.{BucketList, ObjectRewrite, ObjectCopy}
+use Rattle.gcs_route.specs.OfCall.{request_kind}
+use Rattle.gcs_rewrite.specs.declared.request.Given.{Given}
+use Rattle.gcs_rewrite.specs.declared.request.Given.TheVariants as given
 use Rattle.gcs_rewrite.specs.declared.request.Request.{Request}
 use Rattle.gcs_rewrite.specs.Lists.{buckets_script}
-use Rattle.gcs_rewrite.specs.Scripts.{script, single_script}
+use Rattle.gcs_rewrite.specs.Copies.{copy_script}
+use Rattle.gcs_rewrite.specs.Scripts.{script, script_on, single_script}
 use Rattle.gcs_rewrite.proofs.Allowed.{script_may}
 use Rattle.gcs_rewrite.proofs.script.next.Goals as goal
 
 -- the script of a list of buckets, and that of every other call
-of_buckets : (request : Request) (answers : List Answer) → request.call.row ≡ 2 → script request answers ≡ buckets_script request.call answers
+of_buckets : (request : Request) (answers : List Answer) → BucketList ≡ request_kind request.call → buckets_script request.call answers ≡ script request answers
 unfolding script
-of_buckets request answers is = ap (λ (b : Bool). if b then buckets_script request.call answers else single_script request.call request.given answers) (eq-eqb request.call.row 2 is)
+of_buckets request answers is = ap (λ kind. script_on kind request.call request.given answers) is
 
-of_others : (request : Request) (answers : List Answer) → (request.call.row ≡ 2 → ⊥) → script request answers ≡ single_script request.call request.given answers
+single_on : (kind : RequestKind) (call : Call) (given : Given) (answers : List Answer) → kind ≢ BucketList → kind ≢ ObjectRewrite → kind ≢ ObjectCopy
+    → single_script call given answers ≡ script_on kind call given answers
+single_on BucketList call given answers list rewrite copy = absurd (list refl)
+single_on ObjectRewrite call given answers list rewrite copy = absurd (rewrite refl)
+single_on ObjectCopy call given answers list rewrite copy = absurd (copy refl)
+single_on _ call given answers list rewrite copy = refl
+
+of_others : (request : Request) (answers : List Answer) → request_kind request.call ≢ BucketList → request_kind request.call ≢ ObjectRewrite → request_kind request.call ≢ ObjectCopy
+    → single_script request.call request.given answers ≡ script request answers
 unfolding script
-of_others request answers is = ap (λ (b : Bool). if b then buckets_script request.call answers else single_script request.call request.given answers) (ne_eqb request.call.row 2 is)
+of_others request answers list rewrite copy = single_on (request_kind request.call) request.call request.given answers list rewrite copy
 
-pub returns-then-call-eq2-clause-next : goal.returns-then-call-eq2-clause-next
-returns-then-call-eq2-clause-next c =
-    IfOk-weaker c.list_buckets.result _ _ (λ next is. is ∙ sym (of_buckets c.args.request.now c.args.answers.now c.if-call-eq2.true)) c.list_buckets.ensures
+pub returns-in-BucketList-clause-next : goal.returns-in-BucketList-clause-next
+returns-in-BucketList-clause-next c =
+    IfOk-weaker c.list_buckets.result _ _ (λ next is. is ∙ of_buckets c.args.request.now c.args.answers.now c.in-BucketList.ensures) c.list_buckets.ensures
 
-pub returns-then-call-eq2-clause-allowed : goal.returns-then-call-eq2-clause-allowed
-returns-then-call-eq2-clause-allowed c =
+pub returns-in-BucketList-clause-allowed : goal.returns-in-BucketList-clause-allowed
+returns-in-BucketList-clause-allowed c =
     IfOk-weaker c.list_buckets.result _ _
-    (λ next is. script_may c.args.request.now c.args.answers.now next c.requires (is ∙ sym (of_buckets c.args.request.now c.args.answers.now c.if-call-eq2.true)))
+    (λ next is. script_may c.args.request.now c.args.answers.now next c.requires (is ∙ of_buckets c.args.request.now c.args.answers.now c.in-BucketList.ensures))
     c.list_buckets.ensures
 
-pub returns-else-call-eq2-clause-next : goal.returns-else-call-eq2-clause-next
-returns-else-call-eq2-clause-next c =
-    IfOk-weaker c.next_single.result _ _ (λ next is. is ∙ sym (of_others c.args.request.now c.args.answers.now c.if-call-eq2.false)) c.next_single.ensures
+pub returns-in_default : goal.returns-in_default
+returns-in_default c =
+    let same = of_others c.args.request.now c.args.answers.now (λ is. c.in_default.not-BucketList (c.kind.ensures ∙ is)) (λ is. c.in_default.not-ObjectRewrite (c.kind.ensures ∙ is)) (λ is. c.in_default.not-ObjectCopy (c.kind.ensures ∙ is)) in
+    record {
+      next = IfOk-weaker c.next_single.result _ _ (λ next is. is ∙ same) c.next_single.ensures;
+      allowed = IfOk-weaker c.next_single.result _ _ (λ next is. script_may c.args.request.now c.args.answers.now next c.requires (is ∙ same)) c.next_single.ensures;
+    }
 
-pub returns-else-call-eq2-clause-allowed : goal.returns-else-call-eq2-clause-allowed
-returns-else-call-eq2-clause-allowed c =
-    IfOk-weaker c.next_single.result _ _
-    (λ next is. script_may c.args.request.now c.args.answers.now next c.requires (is ∙ sym (of_others c.args.request.now c.args.answers.now c.if-call-eq2.false)))
-    c.next_single.ensures
+copy_on : (kind : RequestKind) (call : Call) (body : ObjectBody) (answers : List Answer) → (kind ≡ ObjectRewrite) ⊎ (kind ≡ ObjectCopy)
+    → copy_script call body answers ≡ script_on kind call (given.Object body) answers
+copy_on kind call body answers (inl is) = ap (λ k. script_on k call (given.Object body) answers) (sym is)
+copy_on kind call body answers (inr is) = ap (λ k. script_on k call (given.Object body) answers) (sym is)
+
+-- the script of a copy or a rewrite
+of_copy : (request : Request) (kind : RequestKind) (body : ObjectBody) (answers : List Answer) → (kind ≡ ObjectRewrite) ⊎ (kind ≡ ObjectCopy)
+    → kind ≡ request_kind request.call → request.given ≡ given.Object body → copy_script request.call body answers ≡ script request answers
+unfolding script
+of_copy request kind body answers copies is body_is =
+    copy_on kind request.call body answers copies
+    ∙ ap (λ k. script_on k request.call (given.Object body) answers) is
+    ∙ ap (λ g. script_on (request_kind request.call) request.call g answers) (sym body_is)
+
+pub returns-in-Object-clause-next : goal.returns-in-Object-clause-next
+returns-in-Object-clause-next c =
+    let same = of_copy c.args.request.now c.kind.result c.in-Object.body c.args.answers.now c.in-ObjectRewrite.is c.kind.ensures c.in-Object.is in
+    IfOk-weaker c.next_copy.result _ _ (λ next is. is ∙ same) c.next_copy.ensures
+
+pub returns-in-Object-clause-allowed : goal.returns-in-Object-clause-allowed
+returns-in-Object-clause-allowed c =
+    let same = of_copy c.args.request.now c.kind.result c.in-Object.body c.args.answers.now c.in-ObjectRewrite.is c.kind.ensures c.in-Object.is in
+    IfOk-weaker c.next_copy.result _ _ (λ next is. script_may c.args.request.now c.args.answers.now next c.requires (is ∙ same)) c.next_copy.ensures
