@@ -1,3 +1,3 @@
-pub mod Digits
+pub mod Fitting
 pub mod Texts
 pub mod RangeTexts

@@ -10,7 +10,7 @@ use Rattle.std.proofs.lemmas.Bool.Decides.{Decides-eqb, nat_tests}
 use Rattle.std.proofs.lemmas.List.{drop_at, drop-drop, length-append, take-append-drop, take_at}
 use Rattle.std.proofs.lemmas.List.Quantifiers.{position-Some}
 use Rattle.std.proofs.lemmas.Slice.Eq.{starts_is}
-use Rattle.gcs_http_in.specs.Fields.{is_length}
+use Rattle.gcs_decimal.specs.Decimal.{is_decimal}
 use Rattle.gcs_rewrite.specs.declared.range.Range.{Range}
 use Rattle.gcs_rewrite.specs.declared.range.Range.TheVariants.{Between, From, Last}
 use Rattle.gcs_request.specs.Ranges.{around_dash, number_of, range_between, range_by, read_range, IsNumberText, IsRangeText}
@@ -23,7 +23,7 @@ chosen true v n e = (refl, cc)
 chosen false v n e = absurd (cc)
 
 number-told : (text : List ℕ) (n : ℕ) → number_of text ≡ Some n → IsNumberText text n
-number-told text n e = let x = chosen (is_length text) (digits_value 10 text) n e in record { digits = x.0; value = sym x.1 }
+number-told text n e = let x = chosen (is_decimal 18 text) (digits_value 10 text) n e in record { digits = x.0; value = sym x.1 }
 
 number-reads : (text : List ℕ) (n : ℕ) → IsNumberText text n → number_of text ≡ Some n
 number-reads text n x = ap (λ (t : Bool). if t then Some (digits_value 10 text) else None) x.digits ∙ ap Some (sym x.value)

@@ -1,33 +1,72 @@
 -- What a head asks for, before its body has come.
-use Rattle.std.specs.Prelude.{◌≡◌, ◌⊎◌, ℕ, ◌==◌, ◌||◌, Bool, Option, Some, None, if◌then◌else◌}
+use Rattle.std.specs.Prelude.{◌≡◌, ◌⊎◌, ℕ, List, Bool, true, false, Option, Some, None, Result, Ok, Err, if◌then◌else◌}
 use Rattle.gcs_http_in.specs.Head.{Head}
+use Rattle.gcs_meaning.specs.declared.reason.Key.TheVariants.{HeadContentType}
 use Rattle.gcs_meaning.specs.declared.reason.Reason.{Reason}
+use Rattle.gcs_meaning.specs.declared.reason.Reason.TheVariants.{Invalid}
+use Rattle.std.specs.Result.{result_err}
+use Rattle.gcs_meaning.specs.Tests.{or_else}
+use Rattle.gcs_multipart.specs.Delimiter.{IsBoundary}
 use Rattle.gcs_route.specs.declared.call.Call.{Call}
+use Rattle.gcs_route.specs.declared.call.UploadKind.{UploadKind}
+use Rattle.gcs_route.specs.declared.call.UploadKind.TheVariants.{Multipart}
 use Rattle.gcs_route.specs.declared.fault.RouteFault.TheVariants as fault
+use Rattle.gcs_route.specs.declared.kind.RequestKind.{RequestKind}
+use Rattle.gcs_route.specs.declared.kind.RequestKind.TheVariants.{BucketInsert, BucketPatch, BucketUpdate, ObjectGet, ObjectPatch, ObjectUpdate, ObjectCompose, ObjectRewrite, ObjectCopy, Upload, Download}
 use Rattle.gcs_route.specs.Calls.{IsFault}
 use Rattle.gcs_route.specs.Calls as route
-use Rattle.gcs_request.specs.declared.bodies.BodyKind.{BodyKind}
-use Rattle.gcs_request.specs.declared.bodies.BodyKind.TheVariants.{PassedOver, Content, Text}
+use Rattle.gcs_route.specs.OfCall.{request_kind}
 use Rattle.gcs_request.specs.declared.heading.HeadPart.{HeadPart}
 use Rattle.gcs_request.specs.declared.heading.HeadPart.TheVariants as part
 use Rattle.gcs_request.specs.declared.heading.Heading.{Heading}
 use Rattle.gcs_request.specs.declared.heading.Heading.TheVariants as heading
-use Rattle.gcs_request.specs.Heads.{content_type_of, is_encoded, method_of, range_in}
+use Rattle.gcs_request.specs.Heads.{boundary_in, content_type_of, is_encoded, method_of, range_in}
 use Rattle.gcs_request.specs.HeadTests.{head_refusal}
-use Rattle.gcs_request.specs.JsonBodies.{changes_object}
+use Rattle.gcs_rewrite.specs.declared.range.Range.{Range}
 
--- the requests of the row have a JSON body
-abbrev pub brings_json : ℕ → Bool
-brings_json row = (row == 1) || ((row == 4) || ((row == 5) || changes_object row))
+-- the range of bytes that is asked for
+abbrev pub range_asked : Call → Head → Option Range
+range_asked call head = if call.media then range_in head else None
 
--- what the head gives beside a call, by its row of the table: a read of bytes the range, an upload the content type, a JSON body
--- whether it is encoded
-abbrev pub part_of : Call → Head → HeadPart
-part_of call head =
-    if (call.row == 10) || (call.row == 21) then part.Read (if call.media then range_in head else None)
-    else if call.row == 18 then part.Whole (content_type_of head)
-    else if brings_json call.row then part.Json (is_encoded head)
-    else part.Nothing
+-- what the head of two parts gives: their boundary, which its content type has to name
+abbrev pub parts_part : Option (List ℕ) → Bool → Result HeadPart Reason
+parts_part None encoded = Err (Invalid HeadContentType)
+parts_part (Some boundary) encoded = Ok (part.Parts boundary encoded)
+
+-- an upload brings two parts
+abbrev pub is_multipart : Option UploadKind → Bool
+is_multipart (Some Multipart) = true
+is_multipart _ = false
+
+-- what the head of an upload gives: two parts, or a content alone, with its type
+abbrev pub upload_part : Option UploadKind → Head → Result HeadPart Reason
+upload_part upload head =
+    if is_multipart upload then parts_part (boundary_in head) (is_encoded head)
+    else Ok (part.Whole (content_type_of head))
+
+-- what the head of such a request gives beside its call, or why it is refused: a read gives the range, an upload as above, a JSON
+-- body whether it is encoded
+abbrev pub part_on : RequestKind → Call → Head → Result HeadPart Reason
+part_on ObjectGet call head = Ok (part.Read (range_asked call head))
+part_on Download call head = Ok (part.Read (range_asked call head))
+part_on Upload call head = upload_part call.upload head
+part_on BucketInsert call head = Ok (part.Json (is_encoded head))
+part_on BucketPatch call head = Ok (part.Json (is_encoded head))
+part_on BucketUpdate call head = Ok (part.Json (is_encoded head))
+part_on ObjectPatch call head = Ok (part.Json (is_encoded head))
+part_on ObjectUpdate call head = Ok (part.Json (is_encoded head))
+part_on ObjectCompose call head = Ok (part.Json (is_encoded head))
+part_on ObjectRewrite call head = Ok (part.Json (is_encoded head))
+part_on ObjectCopy call head = Ok (part.Json (is_encoded head))
+part_on _ call head = Ok part.Nothing
+
+-- what the head gives beside its call
+abbrev pub part_of : Call → Head → Result HeadPart Reason
+part_of call head = part_on (request_kind call) call head
+
+-- the first refusal of a call by its head: by the call alone, and then by what the head gives
+abbrev pub refusal_of : Call → Head → Option Reason
+refusal_of call head = or_else (head_refusal call) (result_err (part_of call head))
 
 -- the head is that of a call
 abbrev pub IsCallOf : Head → Call → Type 0
@@ -36,17 +75,15 @@ IsCallOf head call = route.IsCall (method_of head) head.target call
 -- what the head alone asks for
 abbrev pub IsHeading : Head → Heading → Type 0
 IsHeading head (heading.Refused reason) =
-    IsFault (method_of head) head.target (fault.Refused reason) ⊎ ((call : Call) × IsCallOf head call × (head_refusal call ≡ Some reason))
-IsHeading head (heading.Asks call part) = IsCallOf head call × (head_refusal call ≡ None) × (part ≡ part_of call head)
+    IsFault (method_of head) head.target (fault.Refused reason) ⊎ ((call : Call) × IsCallOf head call × (refusal_of call head ≡ Some reason))
+IsHeading head (heading.Asks call part) = IsCallOf head call × (head_refusal call ≡ None) × (part_of call head ≡ Ok part)
 
--- what becomes of a body whose head gives this: that of an upload is a content, and JSON is a text
-abbrev pub kind_with : HeadPart → BodyKind
-kind_with part.Nothing = PassedOver
-kind_with (part.Read range) = PassedOver
-kind_with (part.Whole kind) = Content
-kind_with (part.Json encoded) = Text
+-- what a heading gives beside its call, by which its body is read. A refusal gives nothing
+abbrev pub part_with : Heading → HeadPart
+part_with (heading.Refused reason) = part.Nothing
+part_with (heading.Asks call part) = part
 
--- what becomes of the body behind a head. That of a refused head is passed over
-abbrev pub body_kind : Heading → BodyKind
-body_kind (heading.Refused reason) = PassedOver
-body_kind (heading.Asks call part) = kind_with part
+-- the boundary of two parts can be sought
+abbrev pub IsSeekable : HeadPart → Type 0
+IsSeekable (part.Parts boundary encoded) = IsBoundary boundary
+IsSeekable _ = Unit {0}

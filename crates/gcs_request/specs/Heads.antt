@@ -5,6 +5,7 @@ use Rattle.std.specs.Option.{option_copied}
 use Rattle.std.specs.Str.{bytes_eq, is_utf8}
 use Rattle.gcs_http_in.specs.Head.{Head}
 use Rattle.gcs_http_in.specs.Fields.{first_of, values_of}
+use Rattle.gcs_multipart.specs.ContentType.{boundary_of}
 use Rattle.gcs_request.specs.declared.heads.HeadFields.{HeadFields}
 use Rattle.gcs_rewrite.specs.declared.range.Range.{Range}
 use Rattle.gcs_request.specs.Ranges.{read_range}
@@ -44,6 +45,15 @@ text_of_field (Some value) = if is_field_text value then Some value else None
 -- the content type that the head gives (RFC 9110, 8.3)
 abbrev pub content_type_of : Head → Option (List ℕ)
 content_type_of head = text_of_field (field_of (codes "content-type") head)
+
+-- a value that names no boundary, as one that isn't there, gives none
+abbrev pub boundary_of_field : Option (List ℕ) → Option (List ℕ)
+boundary_of_field None = None
+boundary_of_field (Some value) = boundary_of value
+
+-- the boundary that the content type of the head names (RFC 2046, 5.1.1)
+abbrev pub boundary_in : Head → Option (List ℕ)
+boundary_in head = boundary_of_field (field_of (codes "content-type") head)
 
 -- the head says that the body is encoded (RFC 9110, 8.4)
 abbrev pub is_encoded : Head → Bool

@@ -1,7 +1,9 @@
 pub mod Ranges
 pub mod Heads
+pub mod Rewriting
 pub mod HeadTests
 pub mod JsonBodies
+pub mod Parts
 pub mod Heading
 pub mod Bodies
 pub mod Requests

@@ -1,14 +1,14 @@
 -- Ranges of bytes: what the field `Range` tells (RFC 9110, 14.1.2 and 14.2).
-use Rattle.std.specs.Prelude.{◌≡◌, ◌≤◌, ◌↔◌, ℕ, ◌+◌, ◌==◌, nat_eq, nat_le, true, List, [], ◌∷◌, ◌++◌, take, drop, length, position, codes, Option, Some, None, option_map, option_and_then, if◌then◌else◌}
+use Rattle.std.specs.Prelude.{◌≡◌, ◌≤◌, ◌↔◌, ℕ, ◌+◌, ◌==◌, nat_eq, nat_le, true, List, [], ◌∷◌, ◌++◌, take, drop, position, codes, Option, Some, None, option_map, option_and_then, if◌then◌else◌}
 use Rattle.std.specs.List.{starts_with}
 use Rattle.std.specs.Str.Parse.{digits_value}
-use Rattle.gcs_http_in.specs.Fields.{is_length}
+use Rattle.gcs_decimal.specs.Decimal.{decimal_of, is_decimal}
 use Rattle.gcs_rewrite.specs.declared.range.Range.{Range}
 use Rattle.gcs_rewrite.specs.declared.range.Range.TheVariants.{Between, From, Last}
 
 -- the number of 1 to 18 decimal digits
 abbrev pub number_of : List ℕ → Option ℕ
-number_of text = if is_length text then Some (digits_value 10 text) else None
+number_of text = decimal_of 18 text
 
 -- the range between two places, which are in order
 abbrev pub range_between : Option ℕ → Option ℕ → Option Range
@@ -33,7 +33,7 @@ read_range value =
 
 -- the text is 1 to 18 decimal digits, which write this number
 pub record IsNumberText (text : List ℕ) (n : ℕ) : Type 0 where
-  pub digits : is_length text ≡ true
+  pub digits : is_decimal 18 text ≡ true
   pub value : n ≡ digits_value 10 text
 
 -- the text is `bytes=`, a place, `-`, and a later place or none; or it is `bytes=-` and a number of last bytes

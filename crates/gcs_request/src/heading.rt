@@ -1,16 +1,19 @@
 //! What a head asks for, before its body has come.
-ghost use Rattle.std.specs.Prelude.{◌≡◌, IfOk, None};
+ghost use Rattle.std.specs.Prelude.{◌≡◌, IfOk, IfErr, None, Ok, Err};
 ghost use Rattle.gcs_http_in.specs.Head.{Head};
-ghost use Rattle.gcs_request.specs.Heading.{body_kind, brings_json, kind_with, part_of, IsCallOf, IsHeading};
+ghost use Rattle.gcs_route.specs.OfTable.{IsOfTable};
+ghost use Rattle.gcs_request.specs.Heading.{is_multipart, part_of, part_with, parts_part, range_asked, upload_part, IsCallOf, IsHeading, IsSeekable};
 ghost use Rattle.gcs_request.specs.HeadTests.{head_refusal};
-ghost use Rattle.gcs_request.specs.Heads.{IsReadOf};
+ghost use Rattle.gcs_request.specs.Heads.{boundary_in, is_encoded, IsReadOf};
 
-use crate::bodies::BodyKind;
 use crate::head_tests::head_refusal;
-use crate::heads::{HeadFields, is_given, method_by, range_of_field, text_of_field};
-use gcs_meaning::{Reason, Text};
+use crate::heads::{
+    HeadFields, boundary_of_field, is_given, method_by, range_of_field, text_of_field,
+};
+use crate::json_bodies::{GivenFault, invalid};
+use gcs_meaning::{Key, List, Reason, Text};
 use gcs_rewrite::Range;
-use gcs_route::{Call, RouteFault, route};
+use gcs_route::{Call, RequestKind, RouteFault, UploadKind, route};
 use std::alloc::{AllocError, Global};
 
 /// What a head asks for, before its body has come.
@@ -29,35 +32,14 @@ pub enum HeadPart {
     Whole { kind: Option<Text> },
     /// A JSON text comes, which must not be encoded.
     Json { encoded: bool },
-}
-
-impl Heading {
-    /// What becomes of the body that comes.
-    pub fn body_kind(&self) -> BodyKind
-        ensures { result ≡ body_kind self.now }
-    {
-        match self {
-            Heading::Refused(_) => BodyKind::PassedOver,
-            Heading::Asks { part, .. } => part.body_kind(),
-        }
-    }
-}
-
-impl HeadPart {
-    fn body_kind(&self) -> BodyKind
-        ensures { result ≡ kind_with self.now }
-    {
-        match self {
-            HeadPart::Nothing | HeadPart::Read { .. } => BodyKind::PassedOver,
-            HeadPart::Whole { .. } => BodyKind::Content,
-            HeadPart::Json { .. } => BodyKind::Text,
-        }
-    }
+    /// Two parts come, JSON and then a content, which must not be encoded.
+    Parts { boundary: List<u8>, encoded: bool },
 }
 
 /// What a head asks for. `Err`: no memory.
 pub fn read_head(alloc: Global, fields: &HeadFields<'_>) -> Result<Heading, AllocError>
-    ensures { IfOk result (λ heading. (head : Head) → IsReadOf head fields.now → IsHeading head heading) }
+    ensures heading { IfOk result (λ heading. (head : Head) → IsReadOf head fields.now → IsHeading head heading) }
+    ensures seekable { IfOk result (λ heading. IsSeekable (part_with heading)) }
 {
     let method = method_by(fields.method, fields.method_override);
     match route(alloc, method, fields.target) {
@@ -69,7 +51,9 @@ pub fn read_head(alloc: Global, fields: &HeadFields<'_>) -> Result<Heading, Allo
 
 // What the head of a call asks for.
 fn heading_of(alloc: Global, call: Call, fields: &HeadFields<'_>) -> Result<Heading, AllocError>
-    ensures { IfOk result (λ heading. (head : Head) → IsReadOf head fields.now → IsCallOf head call → IsHeading head heading) }
+    requires { IsOfTable call }
+    ensures heading { IfOk result (λ heading. (head : Head) → IsReadOf head fields.now → IsCallOf head call → IsHeading head heading) }
+    ensures seekable { IfOk result (λ heading. IsSeekable (part_with heading)) }
 {
     match head_refusal(alloc, &call) {
         Ok(None) => with_part(alloc, call, fields),
@@ -87,42 +71,108 @@ fn heading_of(alloc: Global, call: Call, fields: &HeadFields<'_>) -> Result<Head
 // The call with what the head gives beside it.
 fn with_part(alloc: Global, call: Call, fields: &HeadFields<'_>) -> Result<Heading, AllocError>
     requires { head_refusal call ≡ None }
-    ensures { IfOk result (λ heading. (head : Head) → IsReadOf head fields.now → IsCallOf head call → IsHeading head heading) }
+    ensures heading { IfOk result (λ heading. (head : Head) → IsReadOf head fields.now → IsCallOf head call → IsHeading head heading) }
+    ensures seekable { IfOk result (λ heading. IsSeekable (part_with heading)) }
 {
     match part_of(alloc, &call, fields) {
         Ok(part) => Ok(Heading::Asks { call, part }),
-        Err(error) => {
+        Err(fault) => {
             drop(call);
-            Err(error)
+            refused_by(fault)
         }
     }
 }
 
-fn part_of(alloc: Global, call: &Call, fields: &HeadFields<'_>) -> Result<HeadPart, AllocError>
-    ensures { IfOk result (λ part. (head : Head) → IsReadOf head fields.now → part ≡ part_of call.now head) }
+// The refusal of a head for what it gives.
+fn refused_by(fault: GivenFault) -> Result<Heading, AllocError>
+    ensures { IfOk result (λ heading. (reason : Reason) × (fault ≡ GivenFault.Refused reason) × (heading ≡ Heading.Refused reason)) }
 {
-    match call.row {
-        10 | 21 => Ok(HeadPart::Read {
-            range: if call.media {
-                range_of_field(fields.range)
-            } else {
-                None
-            },
+    match fault {
+        GivenFault::Refused(reason) => Ok(Heading::Refused(reason)),
+        GivenFault::NoMemory => Err(AllocError),
+    }
+}
+
+fn part_of(alloc: Global, call: &Call, fields: &HeadFields<'_>) -> Result<HeadPart, GivenFault>
+    ensures part { IfOk result (λ part. (head : Head) → IsReadOf head fields.now → part_of call.now head ≡ Ok part) }
+    ensures refused { IfErr result (λ fault. (reason : Reason) → fault ≡ GivenFault.Refused reason
+        → (head : Head) → IsReadOf head fields.now → part_of call.now head ≡ Err reason) }
+    ensures seekable { IfOk result (λ part. IsSeekable part) }
+{
+    use RequestKind::*;
+
+    match call.kind() {
+        ObjectGet | Download => Ok(HeadPart::Read {
+            range: range_asked(call, fields),
         }),
-        18 => {
-            let kind = text_of_field(alloc, fields.content_type)?;
-            Ok(HeadPart::Whole { kind })
-        }
-        row if brings_json(row) => Ok(HeadPart::Json {
+        Upload => upload_part(alloc, call.upload, fields),
+        BucketInsert
+        | BucketPatch
+        | BucketUpdate
+        | ObjectPatch
+        | ObjectUpdate
+        | ObjectCompose
+        | ObjectRewrite
+        | ObjectCopy => Ok(HeadPart::Json {
             encoded: is_given(fields.content_encoding),
         }),
         _ => Ok(HeadPart::Nothing),
     }
 }
 
-// Whether the requests of a row have a JSON body.
-fn brings_json(row: u32) -> bool
-    ensures { result ≡ brings_json row }
+// What the head of an upload gives: two parts, or a content alone.
+fn upload_part(
+    alloc: Global,
+    upload: Option<UploadKind>,
+    fields: &HeadFields<'_>,
+) -> Result<HeadPart, GivenFault>
+    ensures part { IfOk result (λ part. (head : Head) → IsReadOf head fields.now → upload_part upload head ≡ Ok part) }
+    ensures refused { IfErr result (λ fault. (reason : Reason) → fault ≡ GivenFault.Refused reason
+        → (head : Head) → IsReadOf head fields.now → upload_part upload head ≡ Err reason) }
+    ensures seekable { IfOk result (λ part. IsSeekable part) }
 {
-    matches!(row, 1 | 4 | 5 | 11 | 12)
+    if is_multipart(upload) {
+        return parts_part(alloc, fields);
+    }
+    match text_of_field(alloc, fields.content_type) {
+        Ok(kind) => Ok(HeadPart::Whole { kind }),
+        Err(_) => Err(GivenFault::NoMemory),
+    }
+}
+
+// Whether an upload brings two parts.
+fn is_multipart(upload: Option<UploadKind>) -> bool
+    ensures { result ≡ is_multipart upload }
+{
+    matches!(upload, Some(UploadKind::Multipart))
+}
+
+// What the head of two parts gives: their boundary, which its content type has to name.
+fn parts_part(alloc: Global, fields: &HeadFields<'_>) -> Result<HeadPart, GivenFault>
+    ensures part { IfOk result (λ part. (head : Head) → IsReadOf head fields.now → parts_part (boundary_in head) (is_encoded head) ≡ Ok part) }
+    ensures refused { IfErr result (λ fault. (reason : Reason) → fault ≡ GivenFault.Refused reason
+        → (head : Head) → IsReadOf head fields.now → parts_part (boundary_in head) (is_encoded head) ≡ Err reason) }
+    ensures seekable { IfOk result (λ part. IsSeekable part) }
+{
+    let Some(boundary) = boundary_of_field(fields.content_type) else {
+        return Err(invalid(Key::HeadContentType));
+    };
+    match Vec::from_slice(alloc, boundary) {
+        Ok(boundary) => Ok(HeadPart::Parts {
+            boundary: List::from_vec(boundary),
+            encoded: is_given(fields.content_encoding),
+        }),
+        Err(_) => Err(GivenFault::NoMemory),
+    }
+}
+
+// The range of bytes that is asked for.
+fn range_asked(call: &Call, fields: &HeadFields<'_>) -> Option<Range>
+    ensures { (head : Head) → IsReadOf head fields.now → result ≡ range_asked call.now head }
+{
+    if call.media {
+        range_of_field(fields.range)
+    } else {
+        None
+    }
 }

@@ -1,15 +1,17 @@
 //! The fields of a head by which a request is told.
-ghost use Rattle.std.specs.Prelude.{◌≡◌, ◌==◌, ◌&&◌, ℕ, List, Some, nat_le, not, is_some, IfOk};
+ghost use Rattle.std.specs.Prelude.{◌≡◌, ◌==◌, ◌&&◌, ℕ, List, Some, nat_le, not, is_some, IfOk, IfSome};
 ghost use Rattle.std.specs.List.{list_all};
 ghost use Rattle.std.specs.Option.{option_copied};
 ghost use Rattle.gcs_http_in.specs.Message.{Message};
 ghost use Rattle.gcs_http_in.specs.Progress.{Current};
 ghost use Rattle.gcs_http_in.specs.Stands.{IsInMessage, Stands};
-ghost use Rattle.gcs_request.specs.Heads.{is_field_text, IsReadOf, method_by, range_of_field, text_of_field};
+ghost use Rattle.gcs_multipart.specs.Delimiter.{IsBoundary};
+ghost use Rattle.gcs_request.specs.Heads.{boundary_of_field, is_field_text, IsReadOf, method_by, range_of_field, text_of_field};
 
 use crate::ranges::read_range;
 use gcs_http_in::Framer;
 use gcs_meaning::Text;
+use gcs_multipart::boundary;
 use gcs_rewrite::Range;
 use std::alloc::{AllocError, Global};
 
@@ -78,6 +80,17 @@ pub fn range_of_field(value: Option<&[u8]>) -> Option<Range>
 {
     match value {
         Some(value) => read_range(value),
+        None => None,
+    }
+}
+
+/// The boundary that a content type names (RFC 2046, 5.1.1).
+pub fn boundary_of_field(value: Option<&[u8]>) -> Option<&[u8]>
+    ensures value { option_copied result ≡ boundary_of_field (option_copied value.entry) }
+    ensures fits { IfSome result (λ b. IsBoundary b.now) }
+{
+    match value {
+        Some(value) => boundary(value),
         None => None,
     }
 }

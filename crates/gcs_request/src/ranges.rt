@@ -2,6 +2,7 @@
 ghost use Rattle.std.specs.Prelude.{◌≡◌, ◌==◌, ◌<◌, IfSome, MatchOption, None, Some, length, position};
 ghost use Rattle.gcs_request.specs.Ranges.{AreRangeTexts, around_dash, number_of, range_between, range_by, read_range};
 
+use gcs_decimal::read_decimal;
 use gcs_rewrite::Range;
 
 /// The one range of bytes that the value of a `Range` field tells: `bytes=a-b`, `bytes=a-` or `bytes=-n`, each number
@@ -54,18 +55,9 @@ fn range_between(first: u64, last: u64) -> Option<Range>
     }
 }
 
+// The number that these digits write, of which there are at most 18.
 fn number_of(text: &[u8]) -> Option<u64>
     ensures { result ≡ number_of text.now }
 {
-    if text.is_empty() || text.len() > 18 {
-        return None;
-    }
-    let mut number: u64 = 0;
-    for digit in text {
-        if !digit.is_ascii_digit() {
-            return None;
-        }
-        number = number * 10 + u64::from(*digit - b'0');
-    }
-    Some(number)
+    read_decimal(text, 18)
 }

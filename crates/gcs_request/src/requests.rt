@@ -2,15 +2,17 @@
 ghost use Rattle.std.specs.Prelude.{◌≡◌, ℕ, List, IfOk, IfErr};
 ghost use Rattle.gcs_http_in.specs.declared.limits.Limits.{Limits};
 ghost use Rattle.gcs_http_in.specs.Head.{Head};
-ghost use Rattle.gcs_request.specs.Bodies.{kind_of, IsCome};
-ghost use Rattle.gcs_request.specs.Heading.{body_kind, kind_with, IsHeading};
-ghost use Rattle.gcs_request.specs.Requests.{IsAsked, IsAskedInLimits, IsBodyFault, IsGiven};
-ghost use Rattle.gcs_rewrite.specs.Scripts.{IsGivenInLimits};
+ghost use Rattle.gcs_request.specs.Bodies.{IsCome};
+ghost use Rattle.gcs_request.specs.Heading.{part_with, IsHeading};
+ghost use Rattle.gcs_request.specs.Parts.{IsPartsFault};
+ghost use Rattle.gcs_request.specs.Requests.{IsAsked, IsAskedFit, IsBodyFault, IsGiven};
+ghost use Rattle.gcs_rewrite.specs.Fits.{Fits};
 
 use crate::bodies::Come;
 use crate::heading::{HeadPart, Heading};
-use crate::json_bodies::{GivenFault, read_given};
-use gcs_meaning::Reason;
+use crate::json_bodies::{GivenFault, invalid, read_given, says_nothing};
+use crate::parts::read_upload;
+use gcs_meaning::{Key, Reason};
 use gcs_rewrite::{Given, Request};
 use gcs_route::Call;
 use std::alloc::{AllocError, Global};
@@ -24,10 +26,10 @@ pub enum Asked {
 
 /// What a message with this head asks for, whose body has come. `Err`: no memory.
 pub fn request_of(alloc: Global, heading: Heading, body: Come) -> Result<Asked, AllocError>
-    requires kind { kind_of body ≡ body_kind heading }
+    requires { (most : ℕ) × (bytes : List ℕ) × IsCome most (part_with heading) bytes body }
     ensures asked { IfOk result (λ asked. (limits : Limits) (head : Head) (bytes : List ℕ) → IsHeading head heading
-        → IsCome limits.json bytes body → IsAsked limits head bytes asked) }
-    ensures limits { IfOk result (λ asked. IsAskedInLimits asked) }
+        → IsCome limits.json (part_with heading) bytes body → IsAsked limits head bytes asked) }
+    ensures fits { IfOk result (λ asked. (head : Head) → IsHeading head heading → IsAskedFit asked) }
 {
     match heading {
         Heading::Refused(reason) => {
@@ -56,11 +58,11 @@ fn refused_by(fault: GivenFault) -> Result<Asked, AllocError>
 
 // What a message gives whose head gives this part.
 fn given_of(alloc: Global, call: &Call, part: HeadPart, body: Come) -> Result<Given, GivenFault>
-    requires kind { kind_of body ≡ kind_with part }
-    ensures given { IfOk result (λ given. (most : ℕ) (bytes : List ℕ) → IsCome most bytes body → IsGiven most call.now part bytes given) }
+    requires { (most : ℕ) × (bytes : List ℕ) × IsCome most part bytes body }
+    ensures given { IfOk result (λ given. (most : ℕ) (bytes : List ℕ) → IsCome most part bytes body → IsGiven most call.now part bytes given) }
     ensures refused { IfErr result (λ fault. (reason : Reason) → fault ≡ GivenFault.Refused reason
-        → (most : ℕ) (bytes : List ℕ) → IsCome most bytes body → IsBodyFault most call.now part bytes reason) }
-    ensures limits { IfOk result (λ given. IsGivenInLimits given) }
+        → (most : ℕ) (bytes : List ℕ) → IsCome most part bytes body → IsBodyFault most call.now part bytes reason) }
+    ensures fits { IfOk result (λ given. (head : Head) → IsHeading head (Heading.Asks call.now part) → Fits (record { call = call.now; given = given })) }
 {
     match part {
         HeadPart::Nothing => {
@@ -72,13 +74,57 @@ fn given_of(alloc: Global, call: &Call, part: HeadPart, body: Come) -> Result<Gi
             Ok(Given::Read { range })
         }
         HeadPart::Whole { kind } => match body {
-            Come::Content(hashed) => Ok(Given::Whole { kind, hashed }),
-            Come::PassedOver | Come::Text(_) | Come::TooLong => unreachable!(),
+            Come::Content(hashed) => Ok(Given::Whole {
+                body: says_nothing(),
+                kind,
+                hashed,
+            }),
+            _ => unreachable!(),
         },
         HeadPart::Json { encoded } => match body {
-            Come::Text(text) => read_given(alloc, call.row, encoded, &text),
+            Come::Text(text) => read_given(alloc, call.kind(), encoded, &text),
             Come::TooLong => Err(GivenFault::Refused(Reason::TooLong)),
-            Come::PassedOver | Come::Content(_) => unreachable!(),
+            _ => unreachable!(),
         },
+        HeadPart::Parts { boundary, encoded } => {
+            drop(boundary);
+            given_of_parts(alloc, call, encoded, body)
+        }
+    }
+}
+
+// What a message gives whose body has parts: it is tested for the length of the first one, whether it is encoded, for
+// its parts, and then for what its JSON says.
+fn given_of_parts(
+    alloc: Global,
+    call: &Call,
+    encoded: bool,
+    body: Come,
+) -> Result<Given, GivenFault>
+    requires { (most : ℕ) × (boundary : List ℕ) × (bytes : List ℕ) × IsCome most (HeadPart.Parts boundary encoded) bytes body }
+    ensures given { IfOk result (λ given. (most : ℕ) (boundary bytes : List ℕ) → IsCome most (HeadPart.Parts boundary encoded) bytes body
+        → IsGiven most call.now (HeadPart.Parts boundary encoded) bytes given) }
+    ensures refused { IfErr result (λ fault. (reason : Reason) → fault ≡ GivenFault.Refused reason
+        → (most : ℕ) (boundary bytes : List ℕ) → IsCome most (HeadPart.Parts boundary encoded) bytes body
+        → IsPartsFault most call.now boundary encoded bytes reason) }
+    ensures fits { IfOk result (λ given. (head : Head) (boundary : List ℕ) → IsHeading head (Heading.Asks call.now (HeadPart.Parts boundary encoded))
+        → Fits (record { call = call.now; given = given })) }
+{
+    match body {
+        Come::TooLong => Err(GivenFault::Refused(Reason::TooLong)),
+        Come::OtherParts if encoded => Err(invalid(Key::HeadContentEncoding)),
+        Come::OtherParts => Err(invalid(Key::Body)),
+        Come::Two { text, kind, hashed } if encoded => {
+            drop((text, kind, hashed));
+            Err(invalid(Key::HeadContentEncoding))
+        }
+        Come::Two { text, kind, hashed } => match read_upload(alloc, call, &text) {
+            Ok(body) => Ok(Given::Whole { body, kind, hashed }),
+            Err(fault) => {
+                drop((kind, hashed));
+                Err(fault)
+            }
+        },
+        Come::PassedOver | Come::Content(_) | Come::Text(_) => unreachable!(),
     }
 }

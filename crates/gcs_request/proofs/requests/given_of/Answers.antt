@@ -1,19 +1,80 @@
--- The refusal of a JSON body.
-use Rattle.std.proofs.Common.{◌≡◌, ◌≤◌, ◌∙◌, ℕ, List, Some, length, subst, sym}
-use Rattle.std.proofs.lemmas.Result.{IfErr-weaker}
+-- What is given by each part, and the refusal of a JSON body.
+use Rattle.std.proofs.Common.{◌≡◌, ◌≤◌, ◌∙◌, ℕ, List, Bool, true, Some, Result, Ok, Err, length, subst, sym}
+use Rattle.std.specs.Prelude.{IfOk}
+use Rattle.std.proofs.lemmas.Result.{IfErr-weaker, IfOk-weaker}
+use Rattle.gcs_http_in.specs.Head.{Head}
+use Rattle.gcs_route.specs.declared.call.Call.{Call}
+use Rattle.gcs_route.specs.declared.kind.RequestKind.{RequestKind}
+use Rattle.gcs_route.specs.OfCall.{request_kind}
+use Rattle.gcs_rewrite.specs.declared.request.Given.{Given}
+use Rattle.gcs_rewrite.specs.declared.request.Given.TheVariants.{Whole}
+use Rattle.gcs_rewrite.specs.Fits.{Fits, IsGivenInLimits, IsGivenOn}
+use Rattle.gcs_request.specs.declared.heading.HeadPart.{HeadPart}
+use Rattle.gcs_request.specs.declared.heading.HeadPart.TheVariants.{Json}
+use Rattle.gcs_request.specs.declared.heading.Heading.TheVariants.{Asks}
+use Rattle.gcs_request.specs.declared.json_bodies.GivenFault.{GivenFault}
 use Rattle.gcs_request.specs.Bodies.{IsCome}
-use Rattle.gcs_request.specs.JsonBodies.{json_refusal}
-use Rattle.gcs_request.specs.Requests.{IsBodyFault}
+use Rattle.gcs_request.specs.Heading.{IsHeading}
+use Rattle.gcs_request.specs.JsonBodies.{brings_json, json_refusal}
+use Rattle.gcs_request.specs.Requests.{IsBodyFault, IsGiven}
+use Rattle.gcs_request.proofs.Fitting.{fits_json, fits_nothing, fits_read, fits_whole}
 use Rattle.gcs_request.proofs.requests.given_of.Goals as goal
+
+-- what is read of a JSON body fits the call
+json_fits : (call : Call) (part : HeadPart) (encoded : Bool) (kind : RequestKind) (read : Result Given GivenFault) → part ≡ Json encoded → kind ≡ request_kind call
+    → IfOk read (λ given. (it : Call) → brings_json kind ≡ true → IsGivenOn kind it given) → IfOk read (λ given. IsGivenInLimits given)
+    → IfOk read (λ given. (head : Head) → IsHeading head (Asks call part) → Fits (record { call = call; given = given }))
+json_fits call part encoded kind (Ok given) is same fit limits = λ head heading.
+    fits_json head call encoded given (subst (λ p. IsHeading head (Asks call p)) is heading)
+    (subst (λ k. (it : Call) → brings_json k ≡ true → IsGivenOn k it given) same fit) limits
+json_fits call part encoded kind (Err fault) is same fit limits = tt
+
+pub returns-in-Nothing-clause-fits : goal.returns-in-Nothing-clause-fits
+returns-in-Nothing-clause-fits c = λ head is.
+    fits_nothing head c.args.call.now (subst (λ part. IsHeading head (Asks c.args.call.now part)) c.in-Nothing.is is)
+
+pub returns-in-Read-clause-fits : goal.returns-in-Read-clause-fits
+returns-in-Read-clause-fits c = λ head is.
+    fits_read head c.args.call.now c.in-Read.range (subst (λ part. IsHeading head (Asks c.args.call.now part)) c.in-Read.is is)
+
+pub returns-in-Content-clause-fits : goal.returns-in-Content-clause-fits
+returns-in-Content-clause-fits c = λ head is.
+    subst (λ body. Fits (record { call = c.args.call.now; given = Whole body c.in-Whole.kind c.in-Content.hashed })) (sym c.says_nothing.ensures)
+    (fits_whole head c.args.call.now c.in-Whole.kind c.in-Content.hashed (subst (λ part. IsHeading head (Asks c.args.call.now part)) c.in-Whole.is is))
+
+pub returns-in-Text-clause-fits : goal.returns-in-Text-clause-fits
+returns-in-Text-clause-fits c =
+    json_fits c.args.call.now c.args.part c.in-Json.encoded c.kind.result c.read_given.result c.in-Json.is c.kind.ensures c.read_given.ensures.fits c.read_given.ensures.limits
 
 pub returns-in-Text-clause-refused : goal.returns-in-Text-clause-refused
 returns-in-Text-clause-refused c =
-    let row : ℕ = c.args.call.now.row in
+    let kind : RequestKind = request_kind c.args.call.now in
     IfErr-weaker c.read_given.result _ _
     (λ fault refused reason is most bytes come.
-    let it : (c.in-Text.text.items ≡ bytes) × (length bytes ≤ most) = subst (IsCome most bytes) c.in-Text.is come in
+    let it : (c.in-Text.text.items ≡ bytes) × (length bytes ≤ most) = subst (IsCome most (Json c.in-Json.encoded) bytes) c.in-Text.is (subst (λ part. IsCome most part bytes c.args.body) c.in-Json.is come) in
     let same : c.deref.result.now ≡ bytes = c.deref.ensures.value ∙ it.0 in
+    let refuses = refused reason is most (subst (λ (l : List ℕ). length l ≤ most) (sym same) it.1) in
     subst (λ part. IsBodyFault most c.args.call.now part bytes reason) (sym c.in-Json.is)
-    (subst (λ (l : List ℕ). json_refusal most c.in-Json.encoded row l ≡ Some reason) same
-    (refused reason is most (subst (λ (l : List ℕ). length l ≤ most) (sym same) it.1))))
+    (subst (λ (l : List ℕ). json_refusal most c.in-Json.encoded kind l ≡ Some reason) same
+    (subst (λ k. json_refusal most c.in-Json.encoded k c.deref.result.now ≡ Some reason) c.kind.ensures refuses)))
     c.read_given.ensures.refused
+
+pub returns-in-Parts-clause-given : goal.returns-in-Parts-clause-given
+returns-in-Parts-clause-given c =
+    IfOk-weaker c.given_of_parts.result _ _
+    (λ given is most bytes come. subst (λ part. IsGiven most c.args.call.now part bytes given) (sym c.in-Parts.is)
+    (is most c.in-Parts.boundary bytes (subst (λ part. IsCome most part bytes c.args.body) c.in-Parts.is come)))
+    c.given_of_parts.ensures.given
+
+pub returns-in-Parts-clause-refused : goal.returns-in-Parts-clause-refused
+returns-in-Parts-clause-refused c =
+    IfErr-weaker c.given_of_parts.result _ _
+    (λ fault refused reason is most bytes come. subst (λ part. IsBodyFault most c.args.call.now part bytes reason) (sym c.in-Parts.is)
+    (refused reason is most c.in-Parts.boundary bytes (subst (λ part. IsCome most part bytes c.args.body) c.in-Parts.is come)))
+    c.given_of_parts.ensures.refused
+
+pub returns-in-Parts-clause-fits : goal.returns-in-Parts-clause-fits
+returns-in-Parts-clause-fits c =
+    IfOk-weaker c.given_of_parts.result _ _
+    (λ given fits head is. fits head c.in-Parts.boundary (subst (λ part. IsHeading head (Asks c.args.call.now part)) c.in-Parts.is is))
+    c.given_of_parts.ensures.fits

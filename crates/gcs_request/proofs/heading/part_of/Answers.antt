@@ -1,0 +1,11 @@
+-- An upload is refused as its head is.
+use Rattle.std.proofs.Common.{ap, sym, ◌∙◌}
+use Rattle.std.proofs.lemmas.Result.{IfErr-weaker}
+use Rattle.gcs_request.specs.Heading.{part_on}
+use Rattle.gcs_request.proofs.heading.part_of.Goals as goal
+
+pub returns-in-Upload-clause-refused : goal.returns-in-Upload-clause-refused
+returns-in-Upload-clause-refused c =
+    IfErr-weaker c.upload_part.result _ _
+    (λ fault refused reason is head read. ap (λ kind. part_on kind c.args.call.now head) (sym c.in-Upload.ensures) ∙ refused reason is head read)
+    c.upload_part.ensures.refused
