@@ -1,3 +1,4 @@
 pub mod Reading
 pub mod Endings
 pub mod Some
+pub mod Heads

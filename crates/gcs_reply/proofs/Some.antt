@@ -36,4 +36,5 @@ reply-some form q (reply.Object row settings) e = head-some _ _ _ _ _ e
 reply-some form q (reply.Bucket row) e = head-some _ _ _ _ _ e
 reply-some form q (reply.Buckets rows token) e = head-some _ _ _ _ _ e
 reply-some form q (reply.Page page) e = head-some _ _ _ _ _ e
+reply-some form q (reply.Rewritten told object) e = head-some _ _ _ _ _ e
 reply-some form q (reply.Media row part) e = head-some _ _ _ _ _ e

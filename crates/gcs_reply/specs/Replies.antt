@@ -6,6 +6,7 @@ use Rattle.gcs_fields.specs.Views.{mask_of}
 use Rattle.gcs_fields.specs.Select.{selected}
 use Rattle.gcs_route.specs.declared.call.MaskPart.{MaskPart}
 use Rattle.gcs_route.specs.declared.call.MaskPart.TheVariants as mask
+use Rattle.gcs_route.specs.OfCall.{last_bucket}
 use Rattle.gcs_crc.specs.Crc.{crc}
 use Rattle.gcs_crc.specs.Text.{crc_text_of, md5_text_of}
 use Rattle.gcs_http_in.specs.declared.fault.FrameFault.{FrameFault}
@@ -13,7 +14,7 @@ use Rattle.gcs_http_in.specs.declared.fault.FrameFault.TheVariants as fault
 use Rattle.gcs_http_out.specs.declared.head.Ending.TheVariants.{Closes}
 use Rattle.gcs_http_out.specs.declared.reply.FixedText.{FixedText}
 use Rattle.gcs_http_out.specs.declared.reply.FixedText.TheVariants as fixed
-use Rattle.gcs_http_out.specs.Head.{head_text}
+use Rattle.gcs_http_out.specs.Head.{field_line, head_text}
 use Rattle.gcs_http_out.specs.Fixed.{fixed_text}
 use Rattle.gcs_meaning.specs.declared.reason.Reason.{Reason}
 use Rattle.gcs_meaning.specs.declared.reason.Reason.TheVariants.{Unsatisfiable}
@@ -21,22 +22,17 @@ use Rattle.gcs_meaning.specs.declared.settings.Meta.{Meta}
 use Rattle.gcs_meaning.specs.declared.version.Row.{Row}
 use Rattle.gcs_meaning.specs.Content.{Digested, bytes_in, md5_if}
 use Rattle.gcs_meaning.specs.Refusals.{status_of}
-use Rattle.gcs_render.specs.Lists.{buckets_data, list_data}
+use Rattle.gcs_render.specs.Lists.{buckets_data, list_data, rewrite_data, version_data}
 use Rattle.gcs_render.specs.Resources.{bucket_data, object_data}
 use Rattle.gcs_render.specs.Refusals.{error_data}
 use Rattle.gcs_rewrite.specs.declared.request.Request.{Request}
 use Rattle.gcs_rewrite.specs.declared.replies.Reply.{Reply}
-use Rattle.gcs_rewrite.specs.declared.replies.Reply.TheVariants.{Refused, Object, Bucket, Buckets, Page, Media, NoContent, NotModified}
+use Rattle.gcs_rewrite.specs.declared.replies.Reply.TheVariants.{Refused, Object, Bucket, Buckets, Page, Rewritten, Media, NoContent, NotModified}
 use Rattle.gcs_reply.specs.declared.form.Form.{Form}
 
--- the first of these names, or an empty one
-abbrev pub first_name : List (List ℕ) → List ℕ
-first_name [] = []
-first_name (name ∷ _) = name
-
--- the bucket that a request names first
+-- the bucket that a request names last: of a copy that of its destination
 abbrev pub bucket_in : Request → List ℕ
-bucket_in request = first_name request.call.buckets
+bucket_in request = last_bucket request.call
 
 -- what a mask leaves of a resource (Google's page "Performance tips", "Partial response")
 abbrev pub masked_by : MaskPart → Data → Data
@@ -62,6 +58,7 @@ status_in (Object row settings) = 200
 status_in (Bucket row) = 200
 status_in (Buckets rows token) = 200
 status_in (Page page) = 200
+status_in (Rewritten reply object) = 200
 status_in NoContent = 204
 status_in NotModified = 304
 status_in (Media row part) = media_status part
@@ -86,14 +83,28 @@ with_lines (line ∷ lines) fields = with_lines lines (fields ++ field_where lin
 abbrev pub standing : List Line → List (List ℕ × List ℕ)
 standing lines = with_lines lines []
 
+-- the text of a field's line, where the field stands (RFC 9112, 5)
+abbrev pub line_text : List ℕ → Option (List ℕ) → List ℕ
+line_text name None = []
+line_text name (Some value) = field_line (name, value)
+
+-- a text, and behind it the lines of those of these fields that stand
+abbrev pub lines_behind : List Line → List ℕ → List ℕ
+lines_behind [] text = text
+lines_behind (line ∷ lines) text = lines_behind lines (text ++ line_text line.0 line.1)
+
 -- the content type of JSON
 abbrev pub json_type : List ℕ
 json_type = codes "application/json; charset=UTF-8"
 
--- the size of which a range can't be met (RFC 9110, 14.4)
-abbrev pub unmet_range : Reason → Option (List ℕ)
-unmet_range (Unsatisfiable size) = Some (codes "bytes */" ++ decimal size)
-unmet_range _ = None
+-- the size of which a range can't be met
+abbrev pub unmet_size : Reason → Option ℕ
+unmet_size (Unsatisfiable size) = Some size
+unmet_size _ = None
+
+-- how it is told (RFC 9110, 14.4)
+abbrev pub unmet_text : ℕ → List ℕ
+unmet_text size = codes "bytes */" ++ decimal size
 
 -- the first and the last byte that are sent, and the size (RFC 9110, 14.4)
 abbrev pub part_text : ℕ → ℕ × ℕ → List ℕ
@@ -136,9 +147,13 @@ version_lines row =
 abbrev pub resource_lines : List Line
 resource_lines = (codes "Content-Type", Some json_type) ∷ []
 
+-- the fields of JSON, with the size of which a range can't be met, where there is one
+abbrev pub json_lines : Option ℕ → List Line
+json_lines unmet = (codes "Content-Type", Some json_type) ∷ (codes "Content-Range", option_map unmet_text unmet) ∷ []
+
 -- the fields of a refusal's JSON
 abbrev pub refusal_lines : Reason → List Line
-refusal_lines reason = (codes "Content-Type", Some json_type) ∷ (codes "Content-Range", unmet_range reason) ∷ []
+refusal_lines reason = json_lines (unmet_size reason)
 
 -- the fields of the bytes of a version, or of a part of them
 unfoldable pub media_lines : Row → Option (ℕ × ℕ) → List Line
@@ -151,6 +166,7 @@ lines_in (Object row settings) = resource_lines
 lines_in (Bucket row) = resource_lines
 lines_in (Buckets rows token) = resource_lines
 lines_in (Page page) = resource_lines
+lines_in (Rewritten reply object) = resource_lines
 lines_in NoContent = []
 lines_in NotModified = []
 lines_in (Media row part) = media_lines row part
@@ -169,6 +185,7 @@ body_in q (Object row settings) = compact_text (masked q (object_data (bucket_in
 body_in q (Bucket row) = compact_text (masked q (bucket_data row))
 body_in q (Buckets rows token) = compact_text (masked q (buckets_data rows token))
 body_in q (Page page) = compact_text (masked q (list_data (bucket_in q) page))
+body_in q (Rewritten reply object) = compact_text (masked q (rewrite_data reply (version_data (bucket_in q) object)))
 body_in q NoContent = []
 body_in q NotModified = []
 body_in q (Media row part) = part_bytes part (bytes_in row.hashed)

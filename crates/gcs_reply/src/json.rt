@@ -1,34 +1,42 @@
-//! Replies with a JSON body.
-ghost use Rattle.std.specs.Prelude.{◌≡◌, ◌++◌, [], IfOk, OnOk, codes, false, string_bytes};
+//! Replies with a JSON body. It is written as a text; a value is made only where a mask leaves a part of it.
+ghost use Rattle.std.specs.Prelude.{◌≡◌, ◌++◌, [], IfOk, OnOk, Some, codes, false, option_map, string_bytes};
 ghost use Rattle.serde_json.specs.View.{view};
 ghost use Rattle.serde_json.specs.Written.{compact_text, has_float};
-ghost use Rattle.gcs_http_out.specs.Head.{IsStatus};
+ghost use Rattle.gcs_fields.specs.Select.{selected};
+ghost use Rattle.gcs_fields.specs.Views.{mask_of};
+ghost use Rattle.gcs_http_out.specs.Head.{IsStatus, head_text};
 ghost use Rattle.gcs_meaning.specs.Refusals.{status_of};
 ghost use Rattle.gcs_render.specs.Lists.{buckets_data, list_data};
 ghost use Rattle.gcs_render.specs.Refusals.{error_data};
 ghost use Rattle.gcs_render.specs.Resources.{bucket_data, object_data};
-ghost use Rattle.gcs_reply.specs.Replies.{bucket_in, field_where, head_and_body, json_type, masked, refusal_lines, resource_lines, standing, unmet_range};
+ghost use Rattle.gcs_reply.specs.Replies.{bucket_in, head_and_body, json_lines, line_text, lines_behind, masked, refusal_lines, resource_lines, standing, unmet_size, unmet_text};
 ghost use Rattle.gcs_reply.specs.Outgoing.{outgoing_bytes};
 
 use crate::form::Form;
 use crate::outgoing::Outgoing;
-use crate::reply_fields::ReplyFields;
-use gcs_fields::apply;
+use crate::turned::Turned;
+use gcs_fields::{Mask, apply};
+use gcs_http_out::{Ending, push_end, push_field, push_status};
 use gcs_meaning::{BucketName, BucketRow, List, Page, Reason, Row, Settings, Text};
-use gcs_render::{bucket_value, buckets_value, error_value, list_value, object_value};
+use gcs_render::{
+    bucket_text, bucket_value, buckets_text, buckets_value, error_text, list_text, list_value,
+    object_text, object_value,
+};
 use gcs_rewrite::Request;
 use gcs_route::MaskPart;
 use serde_json::Value;
 use std::alloc::{AllocError, Global};
+
+/// Room for the text of a usual resource with its head.
+pub const TEXT_ROOM: usize = 1024;
 
 /// A refusal, with the size where a range can't be met. `Err`: no memory.
 pub fn refusal_reply(alloc: Global, form: Form, reason: &Reason) -> Result<Outgoing, AllocError>
     ensures { IfOk result (λ outgoing. outgoing_bytes outgoing
         ≡ head_and_body form (status_of reason.now) (standing (refusal_lines reason.now)) (compact_text (error_data reason.now))) }
 {
-    let body = refusal_text(alloc, reason)?;
-    let fields = refusal_fields(alloc, reason)?;
-    json_text(alloc, form, reason.status(), fields, &body)
+    let body = error_text(alloc, Vec::with_capacity(alloc, TEXT_ROOM)?, reason)?;
+    json_reply(form, reason.status(), unmet_size_of(reason), body)
 }
 
 /// The resource of a version, in the bucket that the request names. `Err`: no memory.
@@ -42,8 +50,8 @@ pub fn resource_reply(
     ensures { IfOk result (λ outgoing. outgoing_bytes outgoing
         ≡ head_and_body form 200 (standing resource_lines) (compact_text (masked request.now (object_data (bucket_in request.now) row.now settings.now)))) }
 {
-    let value = resource_of(alloc, request, row, settings)?;
-    masked_reply(alloc, form, request, value)
+    let body = resource_body(alloc, request, row, settings)?;
+    json_reply(form, 200, None, body)
 }
 
 /// The resource of a bucket. `Err`: no memory.
@@ -56,8 +64,8 @@ pub fn bucket_reply(
     ensures { IfOk result (λ outgoing. outgoing_bytes outgoing
         ≡ head_and_body form 200 (standing resource_lines) (compact_text (masked request.now (bucket_data row.now)))) }
 {
-    let value = bucket_value(alloc, row)?;
-    masked_reply(alloc, form, request, value)
+    let body = bucket_body(alloc, request, row)?;
+    json_reply(form, 200, None, body)
 }
 
 /// A page of buckets. `Err`: no memory.
@@ -71,8 +79,8 @@ pub fn buckets_reply(
     ensures { IfOk result (λ outgoing. outgoing_bytes outgoing
         ≡ head_and_body form 200 (standing resource_lines) (compact_text (masked request.now (buckets_data rows.now token.now)))) }
 {
-    let value = buckets_value(alloc, rows, token.as_ref())?;
-    masked_reply(alloc, form, request, value)
+    let body = buckets_body(alloc, request, rows, token)?;
+    json_reply(form, 200, None, body)
 }
 
 /// A page of objects, in the bucket that the request names. `Err`: no memory.
@@ -85,131 +93,164 @@ pub fn page_reply(
     ensures { IfOk result (λ outgoing. outgoing_bytes outgoing
         ≡ head_and_body form 200 (standing resource_lines) (compact_text (masked request.now (list_data (bucket_in request.now) page.now)))) }
 {
-    let value = page_of(alloc, request, page)?;
-    masked_reply(alloc, form, request, value)
+    let body = page_body(alloc, request, page)?;
+    json_reply(form, 200, None, body)
 }
 
-// The part of a resource that a request asks for. `Err`: no memory.
-fn masked_reply(
-    alloc: Global,
-    form: Form,
-    request: &Request,
-    value: Value,
-) -> Result<Outgoing, AllocError>
-    requires { has_float (view value) ≡ false }
-    ensures { IfOk result (λ outgoing. outgoing_bytes outgoing
-        ≡ head_and_body form 200 (standing resource_lines) (compact_text (masked request.now (view value)))) }
-{
-    let part = mask_value(alloc, request, value)?;
-    let body = part.to_string(alloc)?;
-    let fields = resource_fields(alloc)?;
-    json_text(alloc, form, 200, fields, &body)
-}
-
-fn page_of(alloc: Global, request: &Request, page: &Page) -> Result<Value, AllocError>
-    ensures value { IfOk result (λ value. view value ≡ list_data (bucket_in request.now) page.now) }
-    ensures whole { IfOk result (λ value. has_float (view value) ≡ false) }
-{
-    match request.call.buckets.get(0) {
-        Some(bucket) => list_value(alloc, bucket, page),
-        None => page_of_nowhere(alloc, page),
-    }
-}
-
-// A page of no bucket.
-fn page_of_nowhere(alloc: Global, page: &Page) -> Result<Value, AllocError>
-    ensures value { IfOk result (λ value. view value ≡ list_data [] page.now) }
-    ensures whole { IfOk result (λ value. has_float (view value) ≡ false) }
-{
-    let none = BucketName::new(Text::new(alloc));
-    list_value(alloc, &none, page)
-}
-
-fn json_text(
-    alloc: Global,
-    form: Form,
-    status: u16,
-    fields: ReplyFields,
-    body: &str,
-) -> Result<Outgoing, AllocError>
-    requires { IsStatus status }
-    ensures { IfOk result (λ outgoing. outgoing_bytes outgoing ≡ head_and_body form status fields body.now) }
-{
-    let mut text = fields.into_head(alloc, status, Some(body.len() as u64), form.ending)?;
-    if !form.head_only {
-        text.extend_from_slice(body.as_bytes())?;
-    }
-    Ok(Outgoing::Text(text))
-}
-
-fn refusal_text(alloc: Global, reason: &Reason) -> Result<String, AllocError>
-    ensures { IfOk result (λ text. string_bytes text ≡ compact_text (error_data reason.now)) }
-{
-    let value = error_value(alloc, reason)?;
-    value.to_string(alloc)
-}
-
-// The part of a resource that a request asks for. `Err`: no memory.
-fn mask_value(alloc: Global, request: &Request, value: Value) -> Result<Value, AllocError>
-    requires { has_float (view value) ≡ false }
-    ensures value { IfOk result (λ part. view part ≡ masked request.now (view value)) }
-    ensures whole { IfOk result (λ part. has_float (view part) ≡ false) }
-{
-    match &request.call.mask {
-        MaskPart::Is(mask) => apply(alloc, mask, value),
-        MaskPart::Absent | MaskPart::Fault(_) => Ok(value),
-    }
-}
-
-fn resource_of(
+fn resource_body(
     alloc: Global,
     request: &Request,
     row: &Row,
     settings: &Settings,
-) -> Result<Value, AllocError>
-    ensures value { IfOk result (λ value. view value ≡ object_data (bucket_in request.now) row.now settings.now) }
-    ensures whole { IfOk result (λ value. has_float (view value) ≡ false) }
+) -> Result<Vec<u8>, AllocError>
+    ensures { IfOk result (λ body. body.items ≡ compact_text (masked request.now (object_data (bucket_in request.now) row.now settings.now))) }
 {
-    match request.call.buckets.get(0) {
-        Some(bucket) => object_value(alloc, bucket, row, settings),
-        None => nowhere(alloc, row, settings),
+    let nowhere = BucketName::new(Text::new(alloc));
+    let bucket = bucket_named(request, &nowhere);
+    match &request.call.mask {
+        MaskPart::Is(mask) => {
+            let value = object_value(alloc, bucket, row, settings)?;
+            masked_text(alloc, mask, value)
+        }
+        MaskPart::Absent | MaskPart::Fault(_) => {
+            let text = Vec::with_capacity(alloc, TEXT_ROOM)?;
+            object_text(alloc, text, bucket, row, settings)
+        }
     }
 }
 
-// The resource of a version in no bucket.
-fn nowhere(alloc: Global, row: &Row, settings: &Settings) -> Result<Value, AllocError>
-    ensures value { IfOk result (λ value. view value ≡ object_data [] row.now settings.now) }
-    ensures whole { IfOk result (λ value. has_float (view value) ≡ false) }
+fn bucket_body(alloc: Global, request: &Request, row: &BucketRow) -> Result<Vec<u8>, AllocError>
+    ensures { IfOk result (λ body. body.items ≡ compact_text (masked request.now (bucket_data row.now))) }
 {
-    let none = BucketName::new(Text::new(alloc));
-    object_value(alloc, &none, row, settings)
+    match &request.call.mask {
+        MaskPart::Is(mask) => masked_text(alloc, mask, bucket_value(alloc, row)?),
+        MaskPart::Absent | MaskPart::Fault(_) => {
+            bucket_text(alloc, Vec::with_capacity(alloc, TEXT_ROOM)?, row)
+        }
+    }
 }
 
-fn refusal_fields(alloc: Global, reason: &Reason) -> Result<ReplyFields, AllocError>
-    ensures { IfOk result (λ fields. fields ≡ standing (refusal_lines reason.now)) }
+fn buckets_body(
+    alloc: Global,
+    request: &Request,
+    rows: &List<BucketRow>,
+    token: &Option<Text>,
+) -> Result<Vec<u8>, AllocError>
+    ensures { IfOk result (λ body. body.items ≡ compact_text (masked request.now (buckets_data rows.now token.now))) }
 {
-    let mut fields = resource_fields(alloc)?;
-    put_size(alloc, &mut fields, reason)?;
-    Ok(fields)
+    match &request.call.mask {
+        MaskPart::Is(mask) => {
+            let value = buckets_value(alloc, rows, token.as_ref())?;
+            masked_text(alloc, mask, value)
+        }
+        MaskPart::Absent | MaskPart::Fault(_) => {
+            let text = Vec::with_capacity(alloc, TEXT_ROOM)?;
+            buckets_text(alloc, text, rows, token.as_ref())
+        }
+    }
 }
 
-fn resource_fields(alloc: Global) -> Result<ReplyFields, AllocError>
-    ensures { IfOk result (λ fields. fields ≡ standing resource_lines) }
+fn page_body(alloc: Global, request: &Request, page: &Page) -> Result<Vec<u8>, AllocError>
+    ensures { IfOk result (λ body. body.items ≡ compact_text (masked request.now (list_data (bucket_in request.now) page.now))) }
 {
-    let mut fields = ReplyFields::new(alloc);
-    fields.text("Content-Type", "application/json; charset=UTF-8")?;
-    Ok(fields)
+    let nowhere = BucketName::new(Text::new(alloc));
+    let bucket = bucket_named(request, &nowhere);
+    match &request.call.mask {
+        MaskPart::Is(mask) => masked_text(alloc, mask, list_value(alloc, bucket, page)?),
+        MaskPart::Absent | MaskPart::Fault(_) => {
+            list_text(alloc, Vec::with_capacity(alloc, TEXT_ROOM)?, bucket, page)
+        }
+    }
 }
 
-// The size of a content in which a range can't be met (RFC 9110, 14.4).
-fn put_size(alloc: Global, fields: &mut ReplyFields, reason: &Reason) -> Result<(), AllocError>
-    ensures { OnOk result (fields.new ≡ fields.old ++ field_where (codes "Content-Range") (unmet_range reason.now)) }
+/// The bucket that a request names last; one that names none has this one.
+pub fn bucket_named<'a>(request: &'a Request, nowhere: &'a BucketName) -> &'a BucketName
+    requires { nowhere.now ≡ [] }
+    ensures { result.now ≡ bucket_in request.now }
+{
+    let buckets = &request.call.buckets;
+    match buckets.get(buckets.len().saturating_sub(1)) {
+        Some(bucket) => bucket,
+        None => nowhere,
+    }
+}
+
+/// The text of what a mask leaves of a value.
+pub fn masked_text(alloc: Global, mask: &Mask, value: Value) -> Result<Vec<u8>, AllocError>
+    requires { has_float (view value) ≡ false }
+    ensures { IfOk result (λ text. text.items ≡ compact_text (selected (mask_of mask.now) (view value))) }
+{
+    let part = apply(alloc, mask, value)?;
+    part.to_vec(alloc)
+}
+
+/// The head of the reply with this body, and the body unless the head alone is asked for.
+pub fn json_reply(
+    form: Form,
+    status: u16,
+    unmet: Option<u64>,
+    body: Vec<u8>,
+) -> Result<Outgoing, AllocError>
+    requires { IsStatus status }
+    ensures { IfOk result (λ outgoing. outgoing_bytes outgoing ≡ head_and_body form status (standing (json_lines unmet)) body.items) }
+{
+    let size = body.len();
+    let mut text = body;
+    if form.head_only {
+        text.clear();
+        push_json_head(&mut text, status, unmet, size as u64, form.ending)?;
+        return Ok(Outgoing::Text(text));
+    }
+    push_json_head(&mut text, status, unmet, size as u64, form.ending)?;
+    Ok(Outgoing::Turned(Turned::new(text, size)))
+}
+
+// Writes a head behind what `text` holds.
+fn push_json_head(
+    text: &mut Vec<u8>,
+    status: u16,
+    unmet: Option<u64>,
+    size: u64,
+    ending: Ending,
+) -> Result<(), AllocError>
+    requires { IsStatus status }
+    ensures { OnOk result (text.new.items ≡ text.old.items ++ head_text status (standing (json_lines unmet)) (Some size) ending) }
+{
+    push_status(text, status)?;
+    push_json_lines(text, unmet)?;
+    push_end(text, Some(size), ending)?;
+    Ok(())
+}
+
+fn push_json_lines(head: &mut Vec<u8>, unmet: Option<u64>) -> Result<(), AllocError>
+    ensures { OnOk result (head.new.items ≡ lines_behind (json_lines unmet) head.old.items) }
+{
+    push_field(head, "Content-Type", "application/json; charset=UTF-8")?;
+    push_unmet(head, unmet)?;
+    Ok(())
+}
+
+fn push_unmet(head: &mut Vec<u8>, unmet: Option<u64>) -> Result<(), AllocError>
+    ensures { OnOk result (head.new.items ≡ head.old.items ++ line_text (codes "Content-Range") (option_map unmet_text unmet)) }
+{
+    if let Some(size) = unmet {
+        let text = unmet_text(*head.allocator(), size)?;
+        push_field(head, "Content-Range", text.as_str())?;
+    }
+    Ok(())
+}
+
+fn unmet_text(alloc: Global, size: u64) -> Result<String, AllocError>
+    ensures { IfOk result (λ text. string_bytes text ≡ unmet_text size) }
+{
+    Ok(format!(in alloc; "bytes */{size}")?)
+}
+
+fn unmet_size_of(reason: &Reason) -> Option<u64>
+    ensures { result ≡ unmet_size reason.now }
 {
     match reason {
-        Reason::Unsatisfiable { size } => {
-            let text = format!(in alloc; "bytes */{size}")?;
-            fields.string("Content-Range", text)
-        }
-        _ => Ok(()),
+        Reason::Unsatisfiable { size } => Some(*size),
+        _ => None,
     }
 }

@@ -1,12 +1,15 @@
 //! What is written for a reply: its head, its fields and its body, in memory or read as it is given out.
 #![tactic(auto)]
 
+mod copying;
 mod excerpt;
 mod form;
+mod head_lines;
 mod json;
 mod media;
 mod outgoing;
-mod reply_fields;
+mod rewriting;
+mod turned;
 mod writing;
 
 pub use form::Form;

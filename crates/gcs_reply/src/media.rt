@@ -1,17 +1,21 @@
 //! Media replies: the bytes of a version, or a part of them, behind a head that tells what they are.
-ghost use Rattle.std.specs.Prelude.{◌≡◌, ◌≤◌, ◌++◌, ℕ, List, IfOk, OnOk, codes, length, option_map, slice_range, string_bytes};
-ghost use Rattle.gcs_http_out.specs.Head.{IsStatus};
+ghost use Rattle.std.specs.Prelude.{◌≡◌, ◌≤◌, ◌++◌, ℕ, List, IfOk, OnOk, Some, codes, length, option_map, slice_range, string_bytes};
+ghost use Rattle.gcs_http_out.specs.Head.{IsStatus, head_text};
 ghost use Rattle.gcs_meaning.specs.Content.{bytes_in};
-ghost use Rattle.gcs_reply.specs.Replies.{content_lines, field_where, hash_text, head_and_body, media_lines, media_status, meta_lines, part_bytes, part_text, standing, version_lines, with_lines};
+ghost use Rattle.gcs_reply.specs.Replies.{content_lines, hash_text, head_and_body, line_text, lines_behind, media_lines, media_status, meta_lines, part_bytes, part_text, standing, version_lines};
 ghost use Rattle.gcs_reply.specs.Outgoing.{outgoing_bytes};
 
 use crate::excerpt::Excerpt;
 use crate::form::Form;
+use crate::head_lines::{push_number, push_text_if};
 use crate::outgoing::Outgoing;
-use crate::reply_fields::ReplyFields;
 use gcs_crc::{crc_text, md5_text};
+use gcs_http_out::{Ending, push_end, push_field, push_status};
 use gcs_meaning::{Copied, Hashed, Meta, Row};
 use std::alloc::{AllocError, Global};
+
+// Room for the head of a usual version.
+const HEAD_ROOM: usize = 512;
 
 /// The bytes of a version, or the part of them from the first of these places up to and with the last. `Err`: no memory.
 ///
@@ -27,8 +31,7 @@ pub fn media_reply(
 {
     let content = row.hashed.content();
     let (from, to) = bounds_of(content.len(), part);
-    let fields = media_fields(alloc, row, part)?;
-    let head = fields.into_head(alloc, media_status(part), Some(to - from), form.ending)?;
+    let head = media_head(alloc, row, part, to - from, form.ending)?;
     if form.head_only {
         return Ok(Outgoing::Text(head));
     }
@@ -37,6 +40,22 @@ pub fn media_reply(
         head,
         body: Excerpt::new(content, from, to),
     })
+}
+
+fn media_head(
+    alloc: Global,
+    row: &Row,
+    part: Option<(u64, u64)>,
+    size: u64,
+    ending: Ending,
+) -> Result<Vec<u8>, AllocError>
+    ensures { IfOk result (λ head. head.items ≡ head_text (media_status part) (standing (media_lines row.now part)) (Some size) ending) }
+{
+    let mut head = Vec::with_capacity(alloc, HEAD_ROOM)?;
+    push_status(&mut head, media_status(part))?;
+    push_media_lines(alloc, &mut head, row, part)?;
+    push_end(&mut head, Some(size), ending)?;
+    Ok(head)
 }
 
 fn media_status(part: Option<(u64, u64)>) -> u16
@@ -65,48 +84,47 @@ fn bounds_of(size: u64, part: Option<(u64, u64)>) -> (u64, u64)
 }
 
 #[tactic(auto, unfolding(crate::specs::Replies::media_lines))]
-fn media_fields(
+fn push_media_lines(
     alloc: Global,
-    row: &Row,
-    part: Option<(u64, u64)>,
-) -> Result<ReplyFields, AllocError>
-    ensures { IfOk result (λ fields. fields ≡ standing (media_lines row.now part)) }
-{
-    let mut fields = ReplyFields::new(alloc);
-    put_content(alloc, &mut fields, row, part)?;
-    put_meta(&mut fields, &row.meta)?;
-    put_version(alloc, &mut fields, row)?;
-    Ok(fields)
-}
-
-fn put_content(
-    alloc: Global,
-    fields: &mut ReplyFields,
+    head: &mut Vec<u8>,
     row: &Row,
     part: Option<(u64, u64)>,
 ) -> Result<(), AllocError>
-    ensures { OnOk result (fields.new ≡ with_lines (content_lines row.now part) fields.old) }
+    ensures { OnOk result (head.new.items ≡ lines_behind (media_lines row.now part) head.old.items) }
 {
-    fields.text("Content-Type", row.meta.content_type.as_str())?;
-    put_part(alloc, fields, &row.hashed, part)?;
+    push_content(alloc, head, row, part)?;
+    push_meta(head, &row.meta)?;
+    push_version(alloc, head, row)?;
     Ok(())
 }
 
-fn put_part(
+fn push_content(
     alloc: Global,
-    fields: &mut ReplyFields,
+    head: &mut Vec<u8>,
+    row: &Row,
+    part: Option<(u64, u64)>,
+) -> Result<(), AllocError>
+    ensures { OnOk result (head.new.items ≡ lines_behind (content_lines row.now part) head.old.items) }
+{
+    push_field(head, "Content-Type", row.meta.content_type.as_str())?;
+    push_part(alloc, head, &row.hashed, part)?;
+    Ok(())
+}
+
+fn push_part(
+    alloc: Global,
+    head: &mut Vec<u8>,
     hashed: &Hashed,
     part: Option<(u64, u64)>,
 ) -> Result<(), AllocError>
-    ensures { OnOk result (fields.new ≡ fields.old ++ field_where (codes "Content-Range") (option_map (part_text (length (bytes_in hashed.now))) part)) }
+    ensures { OnOk result (head.new.items
+        ≡ head.old.items ++ line_text (codes "Content-Range") (option_map (part_text (length (bytes_in hashed.now))) part)) }
 {
-    match part {
-        Some((first, last)) => {
-            let text = part_text(alloc, first, last, hashed.content().len())?;
-            fields.string("Content-Range", text)
-        }
-        None => Ok(()),
+    if let Some((first, last)) = part {
+        let text = part_text(alloc, first, last, hashed.content().len())?;
+        push_field(head, "Content-Range", text.as_str())?;
     }
+    Ok(())
 }
 
 fn part_text(alloc: Global, first: u64, last: u64, size: u64) -> Result<String, AllocError>
@@ -115,22 +133,23 @@ fn part_text(alloc: Global, first: u64, last: u64, size: u64) -> Result<String, 
     Ok(format!(in alloc; "bytes {first}-{last}/{size}")?)
 }
 
-fn put_meta(fields: &mut ReplyFields, meta: &Meta) -> Result<(), AllocError>
-    ensures { OnOk result (fields.new ≡ with_lines (meta_lines meta.now) fields.old) }
+fn push_meta(head: &mut Vec<u8>, meta: &Meta) -> Result<(), AllocError>
+    ensures { OnOk result (head.new.items ≡ lines_behind (meta_lines meta.now) head.old.items) }
 {
-    fields.text_if("Cache-Control", &meta.cache_control)?;
-    fields.text_if("Content-Disposition", &meta.content_disposition)?;
-    fields.text_if("Content-Encoding", &meta.content_encoding)?;
-    fields.text_if("Content-Language", &meta.content_language)?;
+    push_text_if(head, "Cache-Control", &meta.cache_control)?;
+    push_text_if(head, "Content-Disposition", &meta.content_disposition)?;
+    push_text_if(head, "Content-Encoding", &meta.content_encoding)?;
+    push_text_if(head, "Content-Language", &meta.content_language)?;
     Ok(())
 }
 
-fn put_version(alloc: Global, fields: &mut ReplyFields, row: &Row) -> Result<(), AllocError>
-    ensures { OnOk result (fields.new ≡ with_lines (version_lines row.now) fields.old) }
+fn push_version(alloc: Global, head: &mut Vec<u8>, row: &Row) -> Result<(), AllocError>
+    ensures { OnOk result (head.new.items ≡ lines_behind (version_lines row.now) head.old.items) }
 {
-    fields.number("x-goog-generation", row.generation)?;
-    fields.number("x-goog-metageneration", row.metageneration)?;
-    fields.string("x-goog-hash", hash_text(alloc, &row.hashed)?)?;
+    push_number(head, "x-goog-generation", row.generation)?;
+    push_number(head, "x-goog-metageneration", row.metageneration)?;
+    let hashes = hash_text(alloc, &row.hashed)?;
+    push_field(head, "x-goog-hash", hashes.as_str())?;
     Ok(())
 }
 

@@ -2,13 +2,17 @@
 ghost use Rattle.std.specs.Prelude.{◌≡◌, ◌++◌, ◌-◌, length, min, take, drop};
 ghost use Rattle.gcs_reply.specs.Outgoing.{outgoing_bytes};
 
+use crate::copying::copy_from;
 use crate::excerpt::Excerpt;
+use crate::turned::Turned;
 use gcs_chunks::Chunks;
 
 /// A text that is written.
 #[derive(Drop)]
 pub enum Outgoing {
     Text(Vec<u8>),
+    /// A head and a body that stand in one block of memory.
+    Turned(Turned),
     Fixed(&'static [u8]),
     /// A head, and then bytes of a content, which are read as they are given out.
     Media { head: Vec<u8>, body: Excerpt },
@@ -21,6 +25,7 @@ impl Outgoing {
     {
         match self {
             Outgoing::Text(bytes) => bytes.len() as u64,
+            Outgoing::Turned(turned) => turned.len(),
             Outgoing::Fixed(bytes) => bytes.len() as u64,
             Outgoing::Media { head, body } => head.len() as u64 + body.len(),
         }
@@ -33,6 +38,7 @@ impl Outgoing {
     {
         match self {
             Outgoing::Text(bytes) => copy_from(bytes, at, into),
+            Outgoing::Turned(turned) => turned.read(at, into),
             Outgoing::Fixed(bytes) => copy_from(bytes, at, into),
             Outgoing::Media { head, body } => read_both(head, body, chunks, at, into),
         }
@@ -47,15 +53,4 @@ fn read_both(head: &[u8], body: &Excerpt, chunks: &Chunks, at: u64, into: &mut [
     let count = copy_from(head, at, into);
     let past = at.saturating_sub(head.len() as u64);
     count + body.read(chunks, past, &mut into[count..])
-}
-
-// Writes the bytes from `at` on, as many as fit and are there.
-fn copy_from(bytes: &[u8], at: u64, into: &mut [u8]) -> usize
-    ensures count { result ≡ min (length into.old) (length bytes.now - at) }
-    ensures bytes { into.new ≡ take result (drop at bytes.now) ++ drop result into.old }
-{
-    let rest = &bytes[at.min(bytes.len() as u64) as usize..];
-    let count = rest.len().min(into.len());
-    into[..count].copy_from_slice(&rest[..count]);
-    count
 }

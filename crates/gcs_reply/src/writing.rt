@@ -8,12 +8,15 @@ use crate::form::Form;
 use crate::json::{bucket_reply, buckets_reply, page_reply, refusal_reply, resource_reply};
 use crate::media::media_reply;
 use crate::outgoing::Outgoing;
-use crate::reply_fields::ReplyFields;
+use crate::rewriting::rewrite_reply;
 use gcs_http_in::FrameFault;
-use gcs_http_out::{Ending, Fixed, FixedText, fixed};
+use gcs_http_out::{Ending, Fixed, FixedText, fixed, push_end, push_status};
 use gcs_meaning::Reason;
 use gcs_rewrite::{Reply, Request};
 use std::alloc::{AllocError, Global};
+
+// Room for a head without fields.
+const BARE_ROOM: usize = 64;
 
 /// The text of a reply. `Err`: no memory.
 #[tactic(auto, unfolding(crate::specs::Replies::reply_text))]
@@ -32,6 +35,7 @@ pub fn write_reply(
         Reply::Bucket(row) => bucket_reply(alloc, form, request, row),
         Reply::Buckets(rows, token) => buckets_reply(alloc, form, request, rows, token),
         Reply::Page(page) => page_reply(alloc, form, request, page),
+        Reply::Rewritten { reply, object } => rewrite_reply(alloc, form, request, reply, object),
         Reply::NoContent => bare_reply(alloc, form, 204),
         Reply::NotModified => bare_reply(alloc, form, 304),
     }
@@ -49,8 +53,9 @@ fn bare_reply(alloc: Global, form: Form, status: u16) -> Result<Outgoing, AllocE
     requires { IsStatus status }
     ensures { IfOk result (λ outgoing. outgoing_bytes outgoing ≡ bare_text form status) }
 {
-    let fields = ReplyFields::new(alloc);
-    let head = fields.into_head(alloc, status, None, form.ending)?;
+    let mut head = Vec::with_capacity(alloc, BARE_ROOM)?;
+    push_status(&mut head, status)?;
+    push_end(&mut head, None, form.ending)?;
     Ok(Outgoing::Text(head))
 }
 

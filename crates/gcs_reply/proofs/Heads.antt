@@ -1,0 +1,31 @@
+-- A head that is written line by line is the text of its parts.
+use Rattle.std.proofs.Common.{◌≡◌, ◌∙◌, ℕ, List, [], ◌∷◌, ◌++◌, Option, Some, None, refl, sym, ap, append_assoc, append-nil}
+use Rattle.std.proofs.lemmas.List.{flat_map_more}
+use Rattle.gcs_http_out.specs.declared.head.Ending.{Ending}
+use Rattle.gcs_http_out.specs.Head.{status_line, field_line, field_lines, length_line, ending_line, line_end, head_text}
+use Rattle.gcs_reply.specs.Replies.{Line, field_where, with_lines, standing, line_text, lines_behind}
+
+-- one field more
+line-behind : (name : List ℕ) (value : Option (List ℕ)) (text : List ℕ) (fields : List (List ℕ × List ℕ))
+    → (text ++ field_lines fields) ++ line_text name value ≡ text ++ field_lines (fields ++ field_where name value)
+line-behind name None text fields = append-nil _ ∙ ap (λ (fs : List (List ℕ × List ℕ)). text ++ field_lines fs) (sym (append-nil fields))
+line-behind name (Some value) text fields = flat_map_more field_line text fields (name, value)
+
+-- all of them
+lines-from : (lines : List Line) (text : List ℕ) (fields : List (List ℕ × List ℕ)) → lines_behind lines (text ++ field_lines fields) ≡ text ++ field_lines (with_lines lines fields)
+lines-from [] text fields = refl
+lines-from (line ∷ lines) text fields =
+    ap (lines_behind lines) (line-behind line.0 line.1 text fields) ∙ lines-from lines text (fields ++ field_where line.0 line.1)
+
+regroup : (before status fields length ending end : List ℕ) → ((before ++ status) ++ fields) ++ (length ++ (ending ++ end)) ≡ before ++ ((((status ++ fields) ++ length) ++ ending) ++ end)
+regroup before status fields length ending end = simp append_assoc
+
+-- a status line, the lines of the fields that stand, and the end
+pub head-written : (status : ℕ) (lines : List Line) (size : Option ℕ) (ending : Ending) (before : List ℕ)
+    → lines_behind lines (before ++ status_line status) ++ (length_line size ++ (ending_line ending ++ line_end)) ≡ before ++ head_text status (standing lines) size ending
+unfolding head_text
+head-written status lines size ending before =
+    let start : List ℕ = before ++ status_line status in
+    let fields : lines_behind lines start ≡ start ++ field_lines (standing lines) = ap (lines_behind lines) (sym (append-nil start)) ∙ lines-from lines start [] in
+    ap (λ (text : List ℕ). text ++ (length_line size ++ (ending_line ending ++ line_end))) fields
+    ∙ regroup before (status_line status) (field_lines (standing lines)) (length_line size) (ending_line ending) line_end
