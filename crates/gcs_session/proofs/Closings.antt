@@ -1,49 +1,17 @@
 -- How a connection ends.
-use Rattle.std.proofs.Common.{◌≡◌, ◌≢◌, ℕ, nat_eq, nat_lt, ◌&&◌, ◌+◌, ◌<◌, ◌≤◌, Bool, true, false, List, [], ◌∷◌, ◌++◌, length, take, drop, Option, Some, Result, Ok, Err, refl, ap, sym, subst, ◌∙◌, arith, append-nil, append_assoc, length-append}
-use Rattle.std.specs.Prelude.{is_err, OnOk, if◌then◌else◌}
+use Rattle.std.proofs.Common.{◌≡◌, ℕ, Bool, true, false, List, [], ◌++◌, Some, refl, sym, subst, append-nil}
+use Rattle.std.specs.Prelude.{if◌then◌else◌}
 use Rattle.std.specs.List.{list_all}
-use Rattle.std.proofs.lemmas.List.{append_cancel_left, take-append-drop, take_all, drop_all, length-take, length-drop}
-use Rattle.std.proofs.lemmas.Bool.Decides.{nat_tests}
-use Rattle.gcs_io.specs.declared.Failed.{Failed}
-use Rattle.gcs_io.specs.Told.{Gains, Loses, is_end}
 use Rattle.gcs_http_in.specs.declared.limits.Limits.{Limits}
 use Rattle.gcs_http_in.specs.Lines.{is_end_byte}
-use Rattle.gcs_http_in.specs.Message.{Message, AllKeep, IsSpelled, Spells}
-use Rattle.gcs_http_in.specs.Usual.{IsAllowed}
+use Rattle.gcs_http_in.specs.Message.{Message, AllKeep, Spells}
 use Rattle.gcs_http_in.proofs.StandsReads.{reads}
-use Rattle.gcs_meaning.specs.Desk.{Histories}
 use Rattle.gcs_session.specs.declared.ends.SessionEnd.TheVariants.{Closed, Cut, Ended, NoMemory, ReadFault, WriteFault}
 use Rattle.gcs_session.specs.declared.session.Session.{Session}
-use Rattle.gcs_session.specs.declared.session.Fed.{Fed}
-use Rattle.gcs_session.specs.declared.session.Want.TheVariants.{More, Drain, Close}
 use Rattle.gcs_session.specs.declared.ends.SessionEnd.{SessionEnd}
 use Rattle.gcs_session.specs.Along.{AlongTo, IsAlong}
-use Rattle.gcs_session.specs.Connection.{IsServed, Moved, Outside, SpellsFirst}
-use Rattle.gcs_session.specs.Running.{lengths}
-use Rattle.gcs_session.specs.Served.{Serves}
-use Rattle.gcs_session.specs.Session.{IsClosedBy, IsDrained, IsFed, IsSession, IsWanted, IsWantOf, Seen, limits_in, waiting_in}
-use Rattle.gcs_session.specs.Writing.{IsWritten}
-use Rattle.gcs_session.proofs.Drops.{nothing-left}
-use Rattle.gcs_session.proofs.Serving.{one-served, serves-append, serves-kept}
-use Rattle.gcs_session.proofs.Steps.{grows_refl, grows_trans}
-use Rattle.gcs_session.proofs.Tellings.{gains-none, gains-trans, loses-none, loses-trans}
-use Rattle.gcs_session.proofs.Alongs.{along-read}
-
--- a served connection, where nothing was done
-pub none-served : (limits : Limits) (caller : ℕ) (a : Outside) (ended : Bool) → IsServed limits caller a a ended NoMemory
-none-served limits caller a ended = record {
-  input = [];
-  output = [];
-  moments = [];
-  moved = record { lost = loses-none a.left; read = gains-none a.taken; wrote = gains-none a.written; clocked = gains-none a.given; grows = grows_refl a.saw; sound = λ l. l };
-  messages = [];
-  rest = [];
-  text = [];
-  spelled = (refl, refl);
-  served = (refl, refl, λ n. refl);
-  written = refl;
-  ends = tt;
-}
+use Rattle.gcs_session.specs.Connection.{IsServed, Outside}
+use Rattle.gcs_session.specs.Session.{IsClosedBy, IsSession, limits_in}
 
 -- the source ended
 pub along-ended : (limits : Limits) (caller : ℕ) (a b : Outside) (s : Session) (started : Bool) → IsAlong limits caller a b s [] → s.closed ≡ false

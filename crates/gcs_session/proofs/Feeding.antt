@@ -1,5 +1,5 @@
 -- What a call of `feed` adds.
-use Rattle.std.proofs.Common.{◌≡◌, ◌≢◌, ℕ, Bool, true, false, not, List, [], ◌∷◌, ◌++◌, take, Option, None, refl, ap, sym, subst, ◌∙◌, arith, append-nil, inl, inr}
+use Rattle.std.proofs.Common.{◌≡◌, ◌≢◌, ℕ, Bool, true, false, not, List, [], ◌∷◌, ◌++◌, take, None, refl, ap, sym, subst, ◌∙◌, arith, append-nil, inl, inr}
 use Rattle.gcs_io.specs.Told.{Gains}
 use Rattle.gcs_http_in.specs.declared.fault.FrameFault.{FrameFault}
 use Rattle.gcs_http_in.specs.declared.limits.Limits.{Limits}
@@ -14,7 +14,7 @@ use Rattle.gcs_reply.specs.Form.{form_of}
 use Rattle.gcs_reply.specs.Replies.{fault_text}
 use Rattle.gcs_reply.proofs.Some.{fixed-some, refusal-some, reply-some}
 use Rattle.gcs_session.specs.Running.{lengths}
-use Rattle.gcs_session.specs.Served.{Answers, Replies, Serves}
+use Rattle.gcs_session.specs.Served.{Answers, Replies}
 use Rattle.gcs_session.specs.Asks.{Counts}
 use Rattle.gcs_session.specs.Session.{IsClosedBy, IsEndedBy, IsFed, IsReplied, IsSession, IsUnderWay, Seen, limits_in}
 use Rattle.gcs_session.specs.Unsent.{unsent_bytes}

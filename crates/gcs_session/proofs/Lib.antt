@@ -10,3 +10,6 @@ pub mod Closings
 pub mod Gathering
 pub mod Feeding
 pub mod Starting
+pub mod Gathered
+pub mod PartsRead
+pub mod PartsEnd

@@ -1,12 +1,12 @@
 -- Histories that grow, and runs of a script over them.
-use Rattle.std.proofs.Common.{◌≡◌, ◌≢◌, ◌⊎◌, inl, inr, ℕ, suc, ◌+◌, ◌<◌, nat_eq, not, Bool, true, false, Option, Some, None, List, [], ◌∷◌, ◌++◌, length, refl, ap, sym, subst, ◌∙◌, arith, add-zero, append-nil, append_assoc, length-append, eq-eqb, if◌then◌else◌}
+use Rattle.std.proofs.Common.{◌≡◌, ◌≢◌, ◌⊎◌, inl, inr, ℕ, suc, ◌+◌, nat_eq, not, Bool, true, false, List, [], ◌∷◌, ◌++◌, length, refl, ap, sym, subst, ◌∙◌, arith, add-zero, append-nil, append_assoc, length-append, eq-eqb, if◌then◌else◌}
 use Rattle.std.proofs.lemmas.Bool.{eqb-true, eqb-false, ne_eqb}
 use Rattle.std.specs.List.{AllByRecursion}
 use Rattle.gcs_meaning.specs.declared.command.Answer.{Answer}
 use Rattle.gcs_meaning.specs.declared.command.Command.{Command}
 use Rattle.gcs_meaning.specs.declared.command.Entry.{Entry}
 use Rattle.gcs_meaning.specs.History.{AnswersAt, AreDistinct}
-use Rattle.gcs_meaning.specs.Desk.{Histories, AreLists, IsStepped, AreUnmoved, entries_of, AreNumbered, IsOf}
+use Rattle.gcs_meaning.specs.Desk.{Histories, AreLists, IsStepped, AreUnmoved, entries_of, AreNumbered}
 use Rattle.gcs_rewrite.specs.declared.moves.Move.TheVariants.{Ask}
 use Rattle.gcs_rewrite.specs.declared.request.Request.{Request}
 use Rattle.gcs_rewrite.specs.Scripts.{script}
@@ -19,9 +19,6 @@ decide false m n e = inr (eqb-false m n e)
 
 pub eq_or_not : (m n : ℕ) → (m ≡ n) ⊎ (m ≢ n)
 eq_or_not m n = decide (nat_eq m n) m n refl
-
-pub grows_refl : (h : Histories) → Grows h h
-grows_refl h = λ s. ([], sym (append-nil (h s)))
 
 pub grows_trans : (a b c : Histories) → Grows a b → Grows b c → Grows a c
 grows_trans a b c p q = λ s. ((p s).0 ++ (q s).0, (q s).1 ∙ ap (λ (es : List Entry). es ++ (q s).0) (p s).1 ∙ append_assoc (a s) (p s).0 (q s).0)
@@ -153,10 +150,6 @@ goes_on-trans caller saw own saw' own' saw'' own'' p q = record { grows = grows_
 pub record IsRun (q : Request) (moment caller : ℕ) (saw own saw' own' : Histories) (ans : List Answer) : Type 0 where
   pub goes_on : GoesOn caller saw own saw' own'
   pub asked : Asks q [] ans moment saw' caller (lengths own) (lengths own')
-
--- nothing was asked yet
-pub run-none : (q : Request) (moment caller : ℕ) (saw own : Histories) → IsRun q moment caller saw own saw own []
-run-none q moment caller saw own = record { goes_on = goes_on-same caller saw own saw own (record { seen = λ s. refl; mine = λ s. refl }); asked = λ s. refl }
 
 -- one step more
 pub run-step : (q : Request) (moment caller : ℕ) (saw own mid mine saw' own' : Histories) (ans : List Answer) (shard : ℕ) (command : Command) (a : Answer)

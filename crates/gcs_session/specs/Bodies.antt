@@ -1,38 +1,46 @@
 -- What has come of a body.
-use Rattle.std.specs.Prelude.{◌≡◌, ◌≤◌, ◌<◌, ℕ, List, ◌++◌, length, Option, Some, None, Ok, Err}
-use Rattle.gcs_chunks.specs.Content.{bytes_of}
-use Rattle.gcs_crc.specs.Digests.{StandsAfter}
-use Rattle.gcs_request.specs.declared.bodies.BodyKind.{BodyKind}
-use Rattle.gcs_request.specs.declared.bodies.BodyKind.TheVariants as kind
+use Rattle.std.specs.Prelude.{◌<◌, ℕ, List, length, Option, Some, None, Result, Ok, Err}
+use Rattle.gcs_request.specs.declared.heading.HeadPart.{HeadPart}
+use Rattle.gcs_request.specs.declared.heading.HeadPart.TheVariants as part
+use Rattle.gcs_request.specs.declared.heading.Heading.{Heading}
+use Rattle.gcs_request.specs.Heading.{part_with}
 use Rattle.gcs_session.specs.declared.body.Body.{Body}
 use Rattle.gcs_session.specs.declared.body.Body.TheVariants as body
-use Rattle.gcs_session.specs.declared.body.Kept.{Kept}
 use Rattle.gcs_session.specs.declared.bounded.Bounded.{Bounded}
+use Rattle.gcs_session.specs.declared.bounded.TextFault.{TextFault}
 use Rattle.gcs_session.specs.declared.bounded.TextFault.TheVariants.{TooLong, NoMemory}
+use Rattle.gcs_session.specs.declared.kept.Kept.{Kept}
+use Rattle.gcs_session.specs.declared.two_parts.TwoParts.{TwoParts}
+use Rattle.gcs_session.specs.Holding.{IsHeld, IsTextOf}
+use Rattle.gcs_session.specs.TwoParts.{AreRead}
 
--- all bytes are kept: those of the content, and then those of the next piece. Both digests have been given them
-pub record IsHeld (k : Kept) (bytes : List ℕ) : Type 0 where
-  pub bytes_are : bytes ≡ bytes_of k.content ++ k.filling.bytes.items
-  pub digested : StandsAfter k.digests bytes
+-- these bytes are kept as a content, or memory lacked for them
+abbrev pub IsHeldIf : Option Kept → List ℕ → Type 0
+IsHeldIf (Some kept) bytes = IsHeld kept bytes
+IsHeldIf None bytes = Unit {0}
 
--- all bytes are there, and they are no more than a text may have
-pub record IsTextOf (most : ℕ) (text : Bounded) (bytes : List ℕ) : Type 0 where
-  pub bytes_are : text.bytes.items ≡ bytes
-  pub most_is : text.most ≡ most
-  pub within : length bytes ≤ most
+-- these bytes are there as a text, which may have so many; or are too many for it, or memory lacked for them
+abbrev pub IsTextIf : ℕ → Result Bounded TextFault → List ℕ → Type 0
+IsTextIf most (Ok text) bytes = IsTextOf most text bytes
+IsTextIf most (Err TooLong) bytes = most < length bytes
+IsTextIf most (Err NoMemory) bytes = Unit {0}
 
--- these bytes of a body have come: they are kept as a content; or they are there as a text, which may have so many bytes, or
--- are too many for it; or they were passed over or lost
-abbrev pub IsGathered : ℕ → Body → List ℕ → Type 0
-IsGathered most body.PassedOver bytes = Unit {0}
-IsGathered most (body.Content (Some kept)) bytes = IsHeld kept bytes
-IsGathered most (body.Content None) bytes = Unit {0}
-IsGathered most (body.Text (Ok text)) bytes = IsTextOf most text bytes
-IsGathered most (body.Text (Err TooLong)) bytes = most < length bytes
-IsGathered most (body.Text (Err NoMemory)) bytes = Unit {0}
+-- these bytes were read as parts, or memory lacked for them
+abbrev pub AreReadIf : ℕ → List ℕ → Option TwoParts → List ℕ → Type 0
+AreReadIf most boundary (Some two) bytes = AreRead most boundary two bytes
+AreReadIf most boundary None bytes = Unit {0}
 
--- what becomes of the bytes of the body
-abbrev pub kind_in : Body → BodyKind
-kind_in body.PassedOver = kind.PassedOver
-kind_in (body.Content kept) = kind.Content
-kind_in (body.Text text) = kind.Text
+-- what the head gives by which the body is read. Where memory lacked for what the head asks for, it gives nothing
+abbrev pub part_in : Option Heading → HeadPart
+part_in None = part.Nothing
+part_in (Some heading) = part_with heading
+
+-- these bytes have come of a body whose head gives this part: that of an upload is kept as a content, JSON as a text, two parts as
+-- both, and any other body is passed over
+abbrev pub IsGathered : ℕ → HeadPart → Body → List ℕ → Type 0
+IsGathered most part.Nothing body.PassedOver bytes = Unit {0}
+IsGathered most (part.Read range) body.PassedOver bytes = Unit {0}
+IsGathered most (part.Whole kind) (body.Content content) bytes = IsHeldIf content bytes
+IsGathered most (part.Json encoded) (body.Text text) bytes = IsTextIf most text bytes
+IsGathered most (part.Parts boundary encoded) (body.Parts parts) bytes = AreReadIf most boundary parts bytes
+IsGathered most _ _ bytes = ⊥

@@ -1,6 +1,8 @@
 pub mod Asks
 pub mod Running
 pub mod Served
+pub mod Holding
+pub mod TwoParts
 pub mod Bodies
 pub mod Coming
 pub mod Unsent

@@ -3,7 +3,7 @@ ghost use Rattle.std.specs.Prelude.{◌≡◌, ◌⊎◌, ℕ, Bool, List, ◌�
 ghost use Rattle.gcs_io.specs.Told.{Gains};
 ghost use Rattle.gcs_http_in.specs.declared.limits.Limits.{Limits};
 ghost use Rattle.gcs_http_in.specs.Head.{Head};
-ghost use Rattle.gcs_rewrite.specs.Scripts.{IsAskable};
+ghost use Rattle.gcs_rewrite.specs.Fits.{Fits};
 ghost use Rattle.gcs_reply.specs.Outgoing.{outgoing_bytes};
 ghost use Rattle.gcs_reply.specs.Replies.{memory_text, refusal_text};
 ghost use Rattle.gcs_session.specs.Coming.{IsComing};
@@ -30,7 +30,7 @@ pub enum Ran {
 
 /// Asks the desk as the request's script goes, up to what it says.
 pub fn run_script<D: Desk>(alloc: Global, desk: &mut D, request: &Request, moment: u64) -> Ran
-    requires { IsAskable request.now }
+    requires { Fits request.now }
     ensures caller { D.caller desk.new ≡ D.caller desk.old }
     ensures goes_on { GoesOn (D.caller desk.old) (D.seen desk.old) (D.mine desk.old) (D.seen desk.new) (D.mine desk.new) }
     ensures ran { RanTo request.now moment (D.seen desk.new) (D.caller desk.old) (lengths (D.mine desk.old)) result (lengths (D.mine desk.new)) }
@@ -116,7 +116,7 @@ fn answer<D: Desk>(
     moment: u64,
     form: Form,
 ) -> Outgoing
-    requires { IsAskable request.now }
+    requires { Fits request.now }
     ensures caller { D.caller desk.new ≡ D.caller desk.old }
     ensures goes_on { GoesOn (D.caller desk.old) (D.seen desk.old) (D.mine desk.old) (D.seen desk.new) (D.mine desk.new) }
     ensures said { IsAnswered form request.now moment (D.seen desk.new) (D.caller desk.old) (lengths (D.mine desk.old)) (outgoing_bytes result) (lengths (D.mine desk.new)) }

@@ -1,5 +1,5 @@
 //! The bytes of a text that may have only so many.
-ghost use Rattle.std.specs.Prelude.{◌≡◌, ◌≢◌, ◌≤◌, ◌<◌, ◌++◌, [], length, IfOk, OnOk, Err};
+ghost use Rattle.std.specs.Prelude.{◌≡◌, ◌≢◌, ◌≤◌, ◌<◌, ◌+◌, ◌++◌, [], length, nat_le, OnOk, Err};
 
 use std::alloc::Global;
 
@@ -36,13 +36,22 @@ impl Bounded {
         ensures within { OnOk result (length self.old.bytes.items ≤ self.old.most → length (self.old.bytes.items ++ part.now) ≤ self.old.most) }
         ensures too_long { result ≡ Err TextFault.TooLong → self.old.most < length (self.old.bytes.items ++ part.now) }
     {
-        let room = self.most.saturating_sub(self.bytes.len() as u64);
-        if part.len() as u64 > room {
+        if !self.has_room(part.len()) {
             return Err(TextFault::TooLong);
         }
         match self.bytes.extend_from_slice(part) {
             Ok(()) => Ok(()),
             Err(_) => Err(TextFault::NoMemory),
+        }
+    }
+
+    /// Whether so many bytes more may come.
+    pub fn has_room(&self, count: usize) -> bool
+        ensures { result ≡ nat_le (length self.now.bytes.items + count) self.now.most }
+    {
+        match self.most.checked_sub(self.bytes.len() as u64) {
+            Some(room) => count as u64 <= room,
+            None => false,
         }
     }
 

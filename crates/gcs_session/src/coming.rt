@@ -3,11 +3,11 @@ ghost use Rattle.std.specs.Prelude.{◌≡◌, []};
 ghost use Rattle.gcs_http_in.specs.declared.limits.Limits.{Limits};
 ghost use Rattle.gcs_http_in.specs.Head.{Head};
 ghost use Rattle.gcs_request.specs.Heads.{IsReadOf};
-ghost use Rattle.gcs_session.specs.Coming.{kind_asked, IsComing};
+ghost use Rattle.gcs_session.specs.Coming.{IsComing};
 
 use crate::body::Body;
 use gcs_reply::Form;
-use gcs_request::{BodyKind, HeadFields, Heading, read_head};
+use gcs_request::{HeadFields, Heading, read_head};
 use std::alloc::Global;
 
 /// A message whose head has come: what it asks for, where memory held that; its body so far; and the form that its reply
@@ -21,27 +21,17 @@ pub struct Coming {
 
 impl Coming {
     /// A message with this head, whose body comes. The connection stays after it or is closed, as `keeps` says; `minor`
-    /// is the version's second number, and `most` is how many bytes a JSON body may have.
+    /// is the version's second number, and `most` is how many bytes JSON may have.
     pub fn new(alloc: Global, fields: &HeadFields<'_>, minor: u8, keeps: bool, most: u64) -> Coming
         ensures { (limits : Limits) (head : Head) → limits.json ≡ most → IsReadOf head fields.now → head.minor ≡ minor
             → IsComing limits head [] keeps result }
     {
         let heading = read_head(alloc, fields).ok();
-        let body = Body::new(alloc, kind_asked(&heading), most);
+        let body = Body::new(alloc, &heading, most);
         Coming {
             heading,
             body,
             form: Form::new(fields.method, minor, keeps),
         }
-    }
-}
-
-// What becomes of the body of a message that asks for this.
-fn kind_asked(heading: &Option<Heading>) -> BodyKind
-    ensures { result ≡ kind_asked heading.now }
-{
-    match heading {
-        Some(heading) => heading.body_kind(),
-        None => BodyKind::PassedOver,
     }
 }

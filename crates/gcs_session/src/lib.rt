@@ -8,7 +8,9 @@ mod coming;
 mod connection;
 mod ends;
 mod filling;
+mod kept;
 mod session;
+mod two_parts;
 mod unsent;
 mod writing;
 

@@ -1,14 +1,22 @@
-use Rattle.std.proofs.Common.{ℕ, subst}
+use Rattle.std.proofs.Common.{ℕ, List, subst}
 use Rattle.gcs_request.specs.Bodies.{IsCome}
-use Rattle.gcs_request.specs.Heading.{IsHeading}
-use Rattle.gcs_request.specs.Requests.{IsAsked, IsCall, IsRefusal}
+use Rattle.gcs_request.specs.Heading.{part_with, IsHeading}
+use Rattle.gcs_request.specs.Requests.{IsAsked, IsAskedFit, IsCall, IsRefusal}
 use Rattle.gcs_reply.specs.Outgoing.{outgoing_bytes}
+use Rattle.gcs_session.specs.Bodies.{part_in, IsGathered}
 use Rattle.gcs_session.specs.Coming.{IsHeadingIf}
 use Rattle.gcs_session.specs.Running.{lengths, GoesOn}
 use Rattle.gcs_session.specs.Served.{IsAnswered}
 use Rattle.gcs_session.proofs.Answered.{answered-from, replies-answered, replies-refused}
 use Rattle.gcs_session.proofs.Steps.{goes_on-same, goes_on-trans, same-lengths}
 use Rattle.gcs_session.proofs.answering.respond.Goals as goal
+
+pub request_of-requires : goal.request_of-requires
+request_of-requires g c =
+    let limits = c.requires.0 in
+    let bytes : List ℕ = c.requires.2 in
+    let part = part_with c.in-Some.heading in
+    (limits.json, bytes, c.in-Ok.ensures.come limits.json part bytes (subst (λ h. IsGathered limits.json (part_in h) c.args.coming.body bytes) c.in-Some.is c.requires.4.body))
 
 pub returns-in-Ok-Refused-clause-reply : goal.returns-in-Ok-Refused-clause-reply
 returns-in-Ok-Refused-clause-reply g c =
@@ -17,12 +25,18 @@ returns-in-Ok-Refused-clause-reply g c =
       c.now-moment.ensures,
       λ limits head body keeps coming.
           let heading : IsHeading head c.in-Some.heading = subst (IsHeadingIf head) c.in-Some.is coming.heading in
-          let come : IsCome limits.json body c.in-Ok.body = c.in-Ok.ensures.come limits.json body coming.body in
+          let come : IsCome limits.json (part_with c.in-Some.heading) body c.in-Ok.body = c.in-Ok.ensures.come limits.json (part_with c.in-Some.heading) body (subst (λ h. IsGathered limits.json (part_in h) c.args.coming.body body) c.in-Some.is coming.body) in
           let refusal : IsRefusal limits head body c.in-Ok-Refused.reason = subst (IsAsked limits head body) c.in-Ok-Refused.field-0-is (c.in-Ok-Refused.ensures.asked limits head body heading come) in
           replies-refused limits head body keeps c.args.coming.form c.in-Ok-Refused.reason c.now-moment.result (d.seen c.finish.new.desk) (d.caller c.args.desk.now) (lengths (d.mine c.args.desk.now))
           (outgoing_bytes c.refuse.result) (lengths (d.mine c.finish.new.desk)) coming.form refusal
           (same-lengths (d.mine c.args.desk.now) (d.mine c.finish.new.desk) c.finish.ensures.lists.mine) c.refuse.ensures,
     )
+
+pub answer-outgoing-requires : goal.answer-outgoing-requires
+answer-outgoing-requires g c =
+    let coming = c.requires.4 in
+    let heading : IsHeading c.requires.1 c.in-Some.heading = subst (IsHeadingIf c.requires.1) c.in-Some.is coming.heading in
+    subst IsAskedFit c.in-Ok-Asks.field-0-is (c.in-Ok-Asks.ensures.fits c.requires.1 heading)
 
 pub returns-in-Ok-Asks-clause-goes_on : goal.returns-in-Ok-Asks-clause-goes_on
 returns-in-Ok-Asks-clause-goes_on g c =
@@ -40,7 +54,7 @@ returns-in-Ok-Asks-clause-reply g c =
       c.now-moment.ensures,
       λ limits head body keeps coming.
           let heading : IsHeading head c.in-Some.heading = subst (IsHeadingIf head) c.in-Some.is coming.heading in
-          let come : IsCome limits.json body c.in-Ok.body = c.in-Ok.ensures.come limits.json body coming.body in
+          let come : IsCome limits.json (part_with c.in-Some.heading) body c.in-Ok.body = c.in-Ok.ensures.come limits.json (part_with c.in-Some.heading) body (subst (λ h. IsGathered limits.json (part_in h) c.args.coming.body body) c.in-Some.is coming.body) in
           let call : IsCall limits head body c.in-Ok-Asks.request = subst (IsAsked limits head body) c.in-Ok-Asks.field-0-is (c.in-Ok-Asks.ensures.asked limits head body heading come) in
           let P : ℕ → Type 0 = λ n. IsAnswered c.args.coming.form c.in-Ok-Asks.request c.now-moment.result (d.seen c.answer-outgoing.new.desk) n (lengths (d.mine c.finish.new.desk)) (outgoing_bytes c.answer-outgoing.result) (lengths (d.mine c.answer-outgoing.new.desk)) in
           replies-answered limits head body keeps c.args.coming.form c.in-Ok-Asks.request c.now-moment.result _ (d.caller c.args.desk.now) _ _ _ coming.form call

@@ -1,5 +1,4 @@
-use Rattle.std.proofs.Common.{◌≡◌, ◌<◌, ◌∙◌, ◌++◌, ◌∷◌, [], ◌+◌, ℕ, List, ap, sym, subst, length, arith, length-append, not, nat_eq}
-use Rattle.gcs_meaning.specs.declared.command.Answer.{Answer}
+use Rattle.std.proofs.Common.{◌≡◌, ◌<◌, ◌∙◌, ◌++◌, ◌∷◌, [], ◌+◌, ℕ, ap, sym, subst, length, arith, length-append, not, nat_eq}
 use Rattle.gcs_meaning.specs.Desk.{IsStepped}
 use Rattle.gcs_rewrite.specs.declared.moves.Move.TheVariants.{Ask}
 use Rattle.gcs_rewrite.specs.Scripts.{script, MayFollow}
@@ -59,5 +58,5 @@ call-requires-clause-shard g c = (subst (MayFollow (length c.deref.result.now)) 
 pub call-requires-clause-belongs : goal.call-requires-clause-belongs
 call-requires-clause-belongs g c = (subst (MayFollow (length c.deref.result.now)) c.in-Ok-Ask.field-0-is c.in-Ok-Ask.ensures.allowed).0.belongs
 
-pub call-requires-clause-built : goal.call-requires-clause-built
-call-requires-clause-built g c = (subst (MayFollow (length c.deref.result.now)) c.in-Ok-Ask.field-0-is c.in-Ok-Ask.ensures.allowed).0.built
+pub call-requires-clause-in_range : goal.call-requires-clause-in_range
+call-requires-clause-in_range g c = (subst (MayFollow (length c.deref.result.now)) c.in-Ok-Ask.field-0-is c.in-Ok-Ask.ensures.allowed).0.in_range

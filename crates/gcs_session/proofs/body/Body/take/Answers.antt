@@ -1,8 +1,22 @@
--- More bytes of a content.
-use Rattle.std.proofs.Common.{subst}
+-- More bytes of each kind of body.
+use Rattle.std.proofs.Common.{ℕ, List, ◌++◌, subst, sym}
 use Rattle.gcs_session.specs.Bodies.{IsGathered}
+use Rattle.gcs_session.proofs.Gathered.{content-more, parts-more, passed-more, text-more}
 use Rattle.gcs_session.proofs.body.Body.take.Goals as goal
 
+pub returns-in-PassedOver-clause-gathered : goal.returns-in-PassedOver-clause-gathered
+returns-in-PassedOver-clause-gathered g c = λ most part bytes come.
+    let more : List ℕ = bytes ++ c.args.piece.now in
+    subst (λ body. IsGathered most part body more) (sym c.in-PassedOver.is) (passed-more most part bytes more (subst (λ body. IsGathered most part body bytes) c.in-PassedOver.is come))
+
 pub returns-in-Content-clause-gathered : goal.returns-in-Content-clause-gathered
-returns-in-Content-clause-gathered g c = λ most bytes come.
-    c.keep_more.ensures.gathered most bytes (subst (λ body. IsGathered most body bytes) c.in-Content.is come)
+returns-in-Content-clause-gathered g c = λ most part bytes come.
+    content-more most part _ _ bytes _ (c.keep_more.ensures.held bytes) (subst (λ body. IsGathered most part body bytes) c.in-Content.is come)
+
+pub returns-in-Text-clause-gathered : goal.returns-in-Text-clause-gathered
+returns-in-Text-clause-gathered g c = λ most part bytes come.
+    text-more most part _ _ bytes _ (c.gather_more.ensures most bytes) (subst (λ body. IsGathered most part body bytes) c.in-Text.is come)
+
+pub returns-in-Parts-clause-gathered : goal.returns-in-Parts-clause-gathered
+returns-in-Parts-clause-gathered g c = λ most part bytes come.
+    parts-more most part _ _ bytes _ (λ boundary. c.read_more.ensures.read most boundary bytes) (subst (λ body. IsGathered most part body bytes) c.in-Parts.is come)

@@ -1,14 +1,14 @@
--- What of the part has been kept, and that no list moves.
+-- What of the piece has been read, and that no list moves.
 use Rattle.std.proofs.Common.{◌≡◌, ◌++◌, ℕ, List, length}
 use Rattle.gcs_meaning.specs.Desk.{AreUnmoved}
-use Rattle.gcs_session.specs.Bodies.{IsHeld}
-use Rattle.gcs_session.proofs.body.Kept.keep.Given as goal
+use Rattle.gcs_session.specs.TwoParts.{AreRead}
+use Rattle.gcs_session.proofs.two_parts.TwoParts.take.Given as goal
 
 abbrev pub invariant-loop-rest : goal.invariant-loop-rest
 invariant-loop-rest g l = record {
   front : List ℕ;
-  part_is : l.part ≡ front ++ l.rest;
-  kept : (bytes : List ℕ) → IsHeld l.fn.self bytes → IsHeld l.self (bytes ++ front);
+  piece_is : l.piece ≡ front ++ l.rest;
+  read : (most : ℕ) (boundary bytes : List ℕ) → AreRead most boundary l.fn.self bytes → AreRead most boundary l.self (bytes ++ front);
   caller : g.D.Desk.caller l.desk ≡ g.D.Desk.caller l.fn.desk;
   lists : AreUnmoved (g.D.Desk.seen l.fn.desk) (g.D.Desk.mine l.fn.desk) (g.D.Desk.seen l.desk) (g.D.Desk.mine l.desk);
 }

@@ -1,8 +1,8 @@
 -- What is kept of the part grows by what the next piece has room for.
 use Rattle.std.proofs.Common.{List, ℕ, ◌++◌, subst, ◌∙◌, append_assoc}
-use Rattle.gcs_session.specs.Bodies.{IsHeld}
+use Rattle.gcs_session.specs.Holding.{IsHeld}
 use Rattle.gcs_session.proofs.Pieces.{kept_more}
-use Rattle.gcs_session.proofs.body.Kept.keep.Goals as goal
+use Rattle.gcs_session.proofs.kept.Kept.keep.Goals as goal
 
 pub loop-rest-preserved : goal.loop-rest-preserved
 loop-rest-preserved g c =

@@ -2,7 +2,7 @@
 use Rattle.std.proofs.Common.{◌≡◌, ◌∙◌, arith, length}
 use Rattle.std.specs.Arc.{arc_value}
 use Rattle.gcs_session.proofs.Pieces.{on_ok, with_piece}
-use Rattle.gcs_session.proofs.body.publish.Goals as goal
+use Rattle.gcs_session.proofs.kept.publish.Goals as goal
 
 pub returns-clause-added : goal.returns-clause-added
 returns-clause-added g c =

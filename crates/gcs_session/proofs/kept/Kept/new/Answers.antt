@@ -2,7 +2,7 @@
 use Rattle.std.proofs.Common.{◌++◌, ap, ap₂, sym, ◌∙◌}
 use Rattle.gcs_chunks.specs.Content.{bytes_of}
 use Rattle.gcs_chunks.proofs.Words.{bytes_of-no_content}
-use Rattle.gcs_session.proofs.body.Kept.new.Goals as goal
+use Rattle.gcs_session.proofs.kept.Kept.new.Goals as goal
 
 pub returns : goal.returns
 returns c = record {

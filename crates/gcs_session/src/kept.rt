@@ -1,0 +1,101 @@
+//! A content while it comes.
+ghost use Rattle.std.specs.Prelude.{◌≡◌, ◌≤◌, ◌+◌, ◌++◌, ℕ, List, [], length, true, IfOk, OnOk};
+ghost use Rattle.gcs_chunks.specs.Content.{bytes_of};
+ghost use Rattle.gcs_meaning.specs.Content.{bytes_in};
+ghost use Rattle.gcs_meaning.specs.Desk.{AreUnmoved};
+ghost use Rattle.gcs_session.specs.Holding.{IsHeld};
+
+use crate::filling::Filling;
+use gcs_chunks::Content;
+use gcs_crc::Digests;
+use gcs_meaning::{Desk, Hashed, List};
+use std::alloc::{AllocError, Global};
+
+/// The limit on bodies keeps every content far below so many bytes.
+const ROOM: u64 = 1 << 62;
+
+/// What has come of a content: pieces that are published, their digests, and the bytes that will be the next piece.
+#[derive(Drop)]
+pub struct Kept {
+    content: Content,
+    digests: Digests,
+    filling: Filling,
+}
+
+impl Kept {
+    /// No bytes have come.
+    pub fn new(alloc: Global) -> Kept
+        ensures { IsHeld result [] }
+    {
+        Kept {
+            content: Content::empty(alloc),
+            digests: Digests::new(),
+            filling: Filling::new(alloc),
+        }
+    }
+
+    /// Keeps more bytes. `Err`: no memory for them.
+    pub fn keep<D: Desk>(&mut self, desk: &mut D, part: &[u8]) -> Result<(), AllocError>
+        ensures kept { OnOk result ((bytes : List ℕ) → IsHeld self.old bytes → IsHeld self.new (bytes ++ part.now)) }
+        ensures caller { D.caller desk.new ≡ D.caller desk.old }
+        ensures lists { AreUnmoved (D.seen desk.old) (D.mine desk.old) (D.seen desk.new) (D.mine desk.new) }
+    {
+        let mut rest = part;
+        while !rest.is_empty() {
+            let (next, later) = rest.split_at(rest.len().min(self.filling.room()));
+            self.fill(desk, next)?;
+            rest = later;
+        }
+        Ok(())
+    }
+
+    // Keeps more bytes, no more than the next piece has room for. `Err`: no memory for them.
+    fn fill<D: Desk>(&mut self, desk: &mut D, part: &[u8]) -> Result<(), AllocError>
+        requires { length self.old.filling.bytes.items + length part.now ≤ 1048576 }
+        ensures kept { OnOk result ((bytes : List ℕ) → IsHeld self.old bytes → IsHeld self.new (bytes ++ part.now)) }
+        ensures caller { D.caller desk.new ≡ D.caller desk.old }
+        ensures lists { AreUnmoved (D.seen desk.old) (D.mine desk.old) (D.seen desk.new) (D.mine desk.new) }
+    {
+        self.digests.update(part);
+        match self.filling.add(part)? {
+            None => Ok(()),
+            Some(piece) => publish(desk, &mut self.content, piece),
+        }
+    }
+
+    /// The content with its digests. `Err`: no memory for its last piece.
+    pub fn finish<D: Desk>(self, desk: &mut D) -> Result<Hashed, AllocError>
+        requires { (bytes : List ℕ) × IsHeld self bytes }
+        ensures bytes { IfOk result (λ hashed. (bytes : List ℕ) → IsHeld self bytes → bytes_in hashed ≡ bytes) }
+        ensures md5 { IfOk result (λ hashed. hashed.with_md5 ≡ true) }
+        ensures caller { D.caller desk.new ≡ D.caller desk.old }
+        ensures lists { AreUnmoved (D.seen desk.old) (D.mine desk.old) (D.seen desk.new) (D.mine desk.new) }
+    {
+        let Kept {
+            mut content,
+            digests,
+            mut filling,
+        } = self;
+        let last = filling.take();
+        if !last.is_empty() {
+            publish(desk, &mut content, last)?;
+        }
+        Ok(Hashed::with(content, digests))
+    }
+}
+
+// Adds a piece to a content. `Err`: no memory for it.
+fn publish<D: Desk>(desk: &mut D, content: &mut Content, bytes: Vec<u8>) -> Result<(), AllocError>
+    requires least { 1 ≤ length bytes.items }
+    requires most { length bytes.items ≤ 1048576 }
+    ensures added { OnOk result (bytes_of content.new ≡ bytes_of content.old ++ bytes.items) }
+    ensures caller { D.caller desk.new ≡ D.caller desk.old }
+    ensures lists { AreUnmoved (D.seen desk.old) (D.mine desk.old) (D.seen desk.new) (D.mine desk.new) }
+{
+    let length = bytes.len();
+    if content.len() >= ROOM {
+        return Err(AllocError);
+    }
+    let piece = desk.publish(List::from_vec(bytes))?;
+    content.append(&piece, 0, length)
+}
