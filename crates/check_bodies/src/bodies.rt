@@ -1,7 +1,10 @@
 //! What a body says, or its fault. Each body is shown by a copy of it.
 use crate::said::Said;
-use gcs_json::{BodyFault, BucketBody, ObjectBody, read_bucket_body, read_object_body};
-use gcs_meaning::{Copied, key_text};
+use gcs_json::{
+    BodyFault, BucketBody, ComposeBody, ObjectBody, read_bucket_body, read_compose_body,
+    read_object_body,
+};
+use gcs_meaning::{Copied, Part, key_text};
 use std::alloc::{AllocError, Global};
 
 /// What the body of `ROW BODY` says, the row being that of the table of paths. `~N~` in the body stands for N letters.
@@ -18,6 +21,10 @@ pub fn body_text(alloc: Global, call: &str, rest: &str) -> Result<String, AllocE
         },
         "object" => match read_object_body(alloc, row, body) {
             Ok(read) => object_said(alloc, &read),
+            Err(fault) => fault_text(alloc, fault),
+        },
+        "compose" => match read_compose_body(alloc, body) {
+            Ok(read) => compose_said(alloc, &read),
             Err(fault) => fault_text(alloc, fault),
         },
         "bucket-fault" => match read_bucket_body(alloc, row, body) {
@@ -48,7 +55,6 @@ fn lengthened(alloc: Global, body: &str) -> Result<String, AllocError> {
 fn fault_text(alloc: Global, fault: BodyFault) -> Result<String, AllocError> {
     match fault {
         BodyFault::NotJson => String::from_str(alloc, "not JSON"),
-        BodyFault::NotBuilt => String::from_str(alloc, "not built"),
         BodyFault::BadField { name } => Ok(format!(in alloc; "bad {}", key_text(name))?),
         BodyFault::Missing { name } => Ok(format!(in alloc; "missing {}", key_text(name))?),
         BodyFault::NoMemory => Err(AllocError),
@@ -64,6 +70,9 @@ fn bucket_said(alloc: Global, read: &BucketBody) -> Result<String, AllocError> {
     said.put_given("location", &body.location)?;
     said.put_pairs("labels", &body.change.labels)?;
     said.put_text("lifecycle", &body.change.lifecycle)?;
+    said.put_flag("default_event_hold", &body.change.default_event_hold)?;
+    said.put_number("retention_period", &body.change.retention_period)?;
+    said.put_number("soft_seconds", &body.change.soft_seconds)?;
     said.put_flag("versioned", &body.change.versioned)?;
     said.put_text("storage_class", &body.change.storage_class)?;
     said.into_text()
@@ -81,7 +90,32 @@ fn object_said(alloc: Global, read: &ObjectBody) -> Result<String, AllocError> {
     said.put_text("content_encoding", &change.content_encoding)?;
     said.put_text("content_language", &change.content_language)?;
     said.put_number("custom_time", &change.custom_time)?;
+    said.put_flag("event_hold", &change.event_hold)?;
+    said.put_flag("temporary_hold", &change.temporary_hold)?;
     said.put_pairs("custom", &change.custom)?;
     said.put_digests(&body.expect)?;
     said.into_text()
+}
+
+// What the destination says, and behind it the sources.
+fn compose_said(alloc: Global, read: &ComposeBody) -> Result<String, AllocError> {
+    let body = read.copy()?;
+    let mut text = object_said(alloc, &body.destination)?;
+    for part in body.parts.as_slice() {
+        text.push_str(source_text(alloc, part)?.as_str())?;
+    }
+    Ok(text)
+}
+
+// A source as ` + NAME`, with `@GENERATION` and `?GENERATION` where it is to be of that generation, and is tested for it.
+fn source_text(alloc: Global, part: &Part) -> Result<String, AllocError> {
+    let name = part.name.as_str();
+    let mut text = format!(in alloc; " + {name}")?;
+    if let Some(generation) = part.generation {
+        text.push_str(format!(in alloc; "@{generation}")?.as_str())?;
+    }
+    if let Some(generation) = part.generation_is {
+        text.push_str(format!(in alloc; "?{generation}")?.as_str())?;
+    }
+    Ok(text)
 }

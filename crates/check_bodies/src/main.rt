@@ -3,10 +3,12 @@
 
 mod bodies;
 mod resources;
-mod rows;
 mod said;
+mod samples;
+mod shown;
 
-use rows::{Row, first_failure, read_rows};
+use check_rows::{first_failure, read_rows, report, status};
+use shown::Shown;
 use std::process::ExitCode;
 use std::rt::Files;
 use std::{env, fs, io};
@@ -16,34 +18,16 @@ fn main(rt: HostRuntime) -> io::Result<ExitCode> {
     for path in env::args(&rt)?.skip(1) {
         all_ok &= run_file(&rt, path.as_str())?;
     }
-    Ok(if all_ok {
-        ExitCode::SUCCESS
-    } else {
-        ExitCode::FAILURE
-    })
+    Ok(status(all_ok))
 }
 
 // Prints a line for each row of the file, and answers whether all rows are as they must be.
 fn run_file(rt: &(impl Files + Print + AllocGlobal), path: &str) -> io::Result<bool> {
     let text = fs::read_to_string(rt, path)?;
-    let rows = read_rows(rt.alloc(), text.as_str())?;
     let mut all_ok = true;
-    for row in &rows {
-        all_ok &= run_row(rt, path, row)?;
+    for row in &read_rows(rt.alloc(), text.as_str())? {
+        let failure = first_failure(row, &mut Shown::new(rt.alloc()))?;
+        all_ok &= report(rt, row.name, path, failure)?;
     }
     Ok(all_ok)
-}
-
-fn run_row(rt: &(impl Print + AllocGlobal), path: &str, row: &Row<'_>) -> io::Result<bool> {
-    let name = row.name;
-    match first_failure(rt.alloc(), row)? {
-        None => {
-            println!(rt; "ok {name}")?;
-            Ok(true)
-        }
-        Some(failure) => {
-            println!(rt; "FAILED {name}: {path}: {failure}")?;
-            Ok(false)
-        }
-    }
 }

@@ -13,6 +13,7 @@ mod trying;
 mod wire;
 
 use by_hand::try_by_hand;
+use check_rows::{report, status};
 use failure::Failure;
 use row::{Row, read_rows};
 use std::alloc::{AllocError, Global};
@@ -23,7 +24,7 @@ use trying::try_row;
 
 fn main(rt: HostRuntime) -> io::Result<ExitCode> {
     let by_hand = try_by_hand(rt.alloc());
-    let mut all_ok = report(
+    let mut all_ok = tell(
         &rt,
         "a_session_is_fed_and_drained_by_hand",
         "by hand",
@@ -32,11 +33,7 @@ fn main(rt: HostRuntime) -> io::Result<ExitCode> {
     for path in env::args(&rt)?.skip(1) {
         all_ok &= run_file(&rt, path.as_str())?;
     }
-    Ok(if all_ok {
-        ExitCode::SUCCESS
-    } else {
-        ExitCode::FAILURE
-    })
+    Ok(status(all_ok))
 }
 
 // Prints a line for each row of the file, and answers whether all rows are as they must be.
@@ -51,25 +48,14 @@ fn run_file(rt: &(impl Files + Print + AllocGlobal), path: &str) -> io::Result<b
 }
 
 fn run_row(rt: &impl Print, alloc: Global, path: &str, row: &Row<'_>) -> io::Result<bool> {
-    report(rt, row.name, path, try_row(alloc, row))
+    tell(rt, row.name, path, try_row(alloc, row))
 }
 
 // Prints the line of a row, and answers whether it is as it must be.
-fn report(
-    rt: &impl Print,
-    name: &str,
-    path: &str,
-    outcome: Result<(), Failure>,
-) -> io::Result<bool> {
+fn tell(rt: &impl Print, name: &str, path: &str, outcome: Result<(), Failure>) -> io::Result<bool> {
     match outcome {
-        Ok(()) => {
-            println!(rt; "ok {name}")?;
-            Ok(true)
-        }
+        Ok(()) => report(rt, name, path, None::<Failure>),
         Err(Failure::NoMemory) => Err(AllocError.into()),
-        Err(failure) => {
-            println!(rt; "FAILED {name}: {path}: {failure}")?;
-            Ok(false)
-        }
+        Err(failure) => report(rt, name, path, Some(failure)),
     }
 }

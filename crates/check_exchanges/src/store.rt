@@ -3,7 +3,7 @@ ghost use Rattle.std.specs.Prelude.{◌≡◌, ◌<◌, IfOk, Some};
 ghost use Rattle.gcs_meaning.specs.Desk.{IsOf};
 ghost use Rattle.gcs_meaning.specs.History.{bucket_of};
 ghost use Rattle.gcs_meaning.specs.Policy.{AreInLimits};
-ghost use Rattle.gcs_meaning.specs.Step.{IsBuilt};
+ghost use Rattle.gcs_meaning.specs.Step.{IsInRange};
 
 use gcs_bucket::PlainDesk;
 use gcs_chunks::Chunks;
@@ -40,7 +40,7 @@ fn insert_tub(alloc: Global, desk: &mut PlainDesk<'_>) -> Result<(), AllocError>
 }
 
 fn insert_command(alloc: Global, bucket: BucketName) -> Result<Command, AllocError>
-    ensures built { IfOk result IsBuilt }
+    ensures in_range { IfOk result IsInRange }
     ensures bucket { IfOk result (λ command. bucket_of command ≡ Some bucket) }
 {
     let location = Text::from_str(alloc, "US")?;
@@ -68,7 +68,7 @@ fn usual_settings(alloc: Global, location: Text, storage_class: Text) -> Setting
 fn call(desk: &mut PlainDesk<'_>, shard: u8, command: Command) -> Result<(), AllocError>
     requires shard { shard < 16 }
     requires belongs { IsOf shard command }
-    requires built { IsBuilt command }
+    requires in_range { IsInRange command }
 {
     match desk.call(shard, START, command) {
         Ok(answer) => {

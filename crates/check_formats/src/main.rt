@@ -13,6 +13,7 @@ mod queries;
 mod report;
 mod times;
 
+use check_rows::status;
 use std::io;
 use std::process::ExitCode;
 
@@ -25,9 +26,5 @@ fn main(rt: HostRuntime) -> io::Result<ExitCode> {
     all_ok &= masks::report_cases(&rt)?;
     all_ok &= framing::report_cases(&rt)?;
     all_ok &= heads::report_cases(&rt)?;
-    Ok(if all_ok {
-        ExitCode::SUCCESS
-    } else {
-        ExitCode::FAILURE
-    })
+    Ok(status(all_ok))
 }

@@ -27,15 +27,10 @@ pub fn expect(row: usize, holds: bool) -> Result<(), Failure> {
 
 /// Prints the line of a case, and answers whether all its rows are as they must be.
 pub fn report(rt: &impl Print, name: &str, tried: Result<(), Failure>) -> io::Result<bool> {
-    match tried {
-        Ok(()) => {
-            println!(rt; "ok {name}")?;
-            Ok(true)
-        }
-        Err(Failure::NoMemory) => Err(AllocError.into()),
-        Err(Failure::Row(row)) => {
-            println!(rt; "FAILED {name}: row {row}")?;
-            Ok(false)
-        }
-    }
+    let row = match tried {
+        Ok(()) => None,
+        Err(Failure::Row(row)) => Some(row),
+        Err(Failure::NoMemory) => return Err(AllocError.into()),
+    };
+    check_rows::report(rt, name, "row", row)
 }

@@ -10,6 +10,7 @@ mod plain;
 mod plan;
 mod store;
 
+use check_rows::status;
 use comparing::{Compared, compare_pages};
 use gcs_chunks::Chunks;
 use gcs_meaning::{Steps, View};
@@ -53,11 +54,7 @@ const SPANS: [Span<'static>; 4] = [
 
 fn main(rt: HostRuntime) -> io::Result<ExitCode> {
     let all_same = compare_all::<Brand>(&rt, Blank::new(1))?;
-    Ok(if all_same {
-        ExitCode::SUCCESS
-    } else {
-        ExitCode::FAILURE
-    })
+    Ok(status(all_same))
 }
 
 // Prints a line for each case, and answers whether all pages are the same.

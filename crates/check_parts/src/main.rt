@@ -8,6 +8,7 @@ mod heads;
 mod telling;
 
 use bodies::{BODIES, BodyRow};
+use check_rows::{report, status};
 use content_types::{NAMED, UNNAMED};
 use contents::{BOUND, DELIMITERS, check_content};
 use gcs_multipart::boundary;
@@ -20,24 +21,21 @@ use telling::{Fault, fault_at, tell_by_copy};
 fn main(rt: HostRuntime) -> io::Result<ExitCode> {
     let mut all_ok = check_types(&rt)?;
     for row in &BODIES {
-        all_ok &= say(&rt, row.name, check_body(rt.alloc(), row)?)?;
+        all_ok &= report(&rt, row.name, "bodies", check_body(rt.alloc(), row)?)?;
     }
-    all_ok &= say(
+    all_ok &= report(
         &rt,
         "a_copy_goes_on_where_its_source_stands",
+        "bodies",
         check_copies(rt.alloc())?,
     )?;
     for row in &HEADS {
-        all_ok &= say(&rt, row.name, check_head(rt.alloc(), row)?)?;
+        all_ok &= report(&rt, row.name, "heads", check_head(rt.alloc(), row)?)?;
     }
     for delimiter in DELIMITERS {
         all_ok &= check_fronts(&rt, rt.alloc(), delimiter)?;
     }
-    Ok(if all_ok {
-        ExitCode::SUCCESS
-    } else {
-        ExitCode::FAILURE
-    })
+    Ok(status(all_ok))
 }
 
 fn check_types(rt: &impl Print) -> io::Result<bool> {
@@ -105,13 +103,18 @@ fn check_head(alloc: Global, row: &HeadRow) -> Result<Option<Fault>, AllocError>
 // A line for each front of the delimiter.
 fn check_fronts(rt: &impl Print, alloc: Global, delimiter: &str) -> io::Result<bool> {
     let Some(boundary) = boundary(BOUND.as_bytes()) else {
-        return say(rt, delimiter, Some(no_boundary(alloc)));
+        return report(rt, delimiter, BOUND, Some(no_boundary(alloc)));
     };
     let mut all_ok = true;
     for length in 0..delimiter.len() {
         let front = &delimiter.as_bytes()[..length];
         let name = format!(in alloc; "content with {length} bytes of {delimiter:?}")?;
-        all_ok &= say(rt, name.as_str(), check_content(alloc, boundary, front)?)?;
+        all_ok &= report(
+            rt,
+            name.as_str(),
+            BOUND,
+            check_content(alloc, boundary, front)?,
+        )?;
     }
     Ok(all_ok)
 }
@@ -125,20 +128,4 @@ fn no_boundary(alloc: Global) -> Fault {
 
 fn word(is_ok: bool) -> &'static str {
     if is_ok { "ok" } else { "FAILED" }
-}
-
-// Prints the line of a row, and answers whether it is as it must be.
-fn say(rt: &impl Print, name: &str, fault: Option<Fault>) -> io::Result<bool> {
-    match fault {
-        None => {
-            println!(rt; "ok {name}")?;
-            Ok(true)
-        }
-        Some(fault) => {
-            let size = fault.size;
-            let line = fault.line.as_slice().escape_ascii();
-            println!(rt; "FAILED {name}: in pieces of {size}: {line}")?;
-            Ok(false)
-        }
-    }
 }

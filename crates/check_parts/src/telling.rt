@@ -4,6 +4,7 @@ ghost use Rattle.gcs_multipart.specs.Delimiter.{IsBoundary};
 
 use gcs_multipart::{PartTaken, Parts};
 use std::alloc::{AllocError, Global};
+use std::fmt::{self, Display, Formatter, Write};
 
 /// What was told of a body.
 #[derive(Drop)]
@@ -132,6 +133,13 @@ pub struct Fault {
     /// The size of the pieces.
     pub size: usize,
     pub line: Vec<u8>,
+}
+
+impl Display for Fault {
+    fn fmt<W: Write>(&self, f: &mut Formatter<W>) -> fmt::Result {
+        let line = self.line.as_slice().escape_ascii();
+        write!(f, "in pieces of {}: {line}", self.size)
+    }
 }
 
 /// The fault of pieces of this size, if there is one: another line, or more bytes held back than a delimiter has.

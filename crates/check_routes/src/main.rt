@@ -3,6 +3,7 @@
 
 mod shown;
 
+use check_rows::status;
 use shown::shown;
 use std::process::ExitCode;
 use std::rt::Files;
@@ -13,11 +14,7 @@ fn main(rt: HostRuntime) -> io::Result<ExitCode> {
     for path in env::args(&rt)?.skip(1) {
         all_ok &= run_file(&rt, path.as_str())?;
     }
-    Ok(if all_ok {
-        ExitCode::SUCCESS
-    } else {
-        ExitCode::FAILURE
-    })
+    Ok(status(all_ok))
 }
 
 // Prints a line for each group of rows, and answers whether all rows are as they must be.

@@ -34,6 +34,8 @@ fn shown_call(alloc: Global, call: &Call) -> Result<String, AllocError> {
     }
     line.add_number("generation", call.generation)?;
     line.add_pre(&call.pre)?;
+    line.add_number("source_generation", call.source_generation)?;
+    line.add_source_pre(&call.source_pre)?;
     line.add_flag("soft", call.soft)?;
     line.add_flag("media", call.media)?;
     line.add_flag("versions", call.versions)?;
@@ -44,6 +46,8 @@ fn shown_call(alloc: Global, call: &Call) -> Result<String, AllocError> {
     line.add_text("end", str_of(&call.end))?;
     line.add_number("most", Some(u64::from(call.most)).filter(|most| *most > 0))?;
     line.add_text("page_token", str_of(&call.page_token))?;
+    line.add_text("rewrite_token", str_of(&call.rewrite_token))?;
+    line.add_number("per_call", call.per_call)?;
     line.add_flag("upload", call.upload.is_some())?;
     line.add_text("name", str_of(&call.name))?;
     line.add_text("encoding", str_of(&call.encoding))?;
@@ -101,6 +105,13 @@ impl Line {
         self.add_number("generation_not", pre.generation_not)?;
         self.add_number("metageneration_is", pre.metageneration_is)?;
         self.add_number("metageneration_not", pre.metageneration_not)
+    }
+
+    fn add_source_pre(&mut self, pre: &Pre) -> Result<(), AllocError> {
+        self.add_number("source_generation_is", pre.generation_is)?;
+        self.add_number("source_generation_not", pre.generation_not)?;
+        self.add_number("source_metageneration_is", pre.metageneration_is)?;
+        self.add_number("source_metageneration_not", pre.metageneration_not)
     }
 
     fn add_mask(&mut self, mask: &MaskPart) -> Result<(), AllocError> {

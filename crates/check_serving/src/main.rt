@@ -10,6 +10,7 @@ mod words;
 mod workers;
 
 use alone::try_alone;
+use check_rows::status;
 use loopback::try_loopback;
 use memory::try_memory;
 use std::io;
@@ -23,9 +24,5 @@ fn main(rt: HostRuntime) -> io::Result<ExitCode> {
     all_ok &= try_alone(&rt)?;
     all_ok &= try_memory(&rt)?;
     all_ok &= try_loopback(&rt)?;
-    Ok(if all_ok {
-        ExitCode::SUCCESS
-    } else {
-        ExitCode::FAILURE
-    })
+    Ok(status(all_ok))
 }

@@ -10,8 +10,11 @@ pub fn answer_text(alloc: Global, answer: &Answer) -> Result<String, AllocError>
         Answer::Empty => String::from_str(alloc, "empty"),
         Answer::Page(page) => Ok(format!(in alloc; "page of {}", page.items.len())?),
         Answer::Buckets(rows) => Ok(format!(in alloc; "buckets {}", rows.len())?),
+        Answer::Started(upload) => Ok(format!(in alloc; "started {upload}")?),
+        Answer::Kept(kept) => Ok(format!(in alloc; "kept {kept}")?),
+        Answer::Complete(content) => Ok(format!(in alloc; "complete {}", content.len())?),
+        Answer::Cancelled => String::from_str(alloc, "cancelled"),
         Answer::Refused(reason) => refusal_text(alloc, reason),
-        _ => String::from_str(alloc, "another answer"),
     }
 }
 

@@ -4,11 +4,13 @@ ghost use Rattle.gcs_chunks.specs.Content.{bytes_of};
 ghost use Rattle.gcs_meaning.specs.Choosing.{is_live};
 
 use crate::answers::refusal_text;
-use crate::commands::plain_meta;
+use crate::commands::{command_of, tub};
+use crate::version_commands::plain_meta;
+use gcs_bucket::Shard;
 use gcs_chunks::{Chunks, Content, Piece};
 use gcs_meaning::{
-    BucketName, BucketRow, Copied, Expect, Hashed, Kind, List, Name, Pairs, Pre, Reason, Row,
-    Settings, Steps, Text, Unit, Upload, UploadState,
+    BucketName, BucketRow, Copied, DEFAULT_CLASS, DEFAULT_SOFT_SECONDS, Expect, Hashed, Kind, List,
+    Name, Pairs, Pre, Reason, Row, Settings, Steps, Text, Unit, Upload, UploadState,
 };
 use gcs_versions::Versions;
 use std::alloc::{AllocError, Global};
@@ -29,6 +31,8 @@ pub fn first_bad_copy(alloc: Global) -> Result<Option<&'static str>, AllocError>
     } else if !are_versions_copied::<Brand>(alloc, row(alloc, name, hashed)?, Blank::new(1))? {
         Some("versions")
     } else if !is_bucket_copied(alloc)? {
+        Some("what is shown of a bucket")
+    } else if !is_slot_copied(alloc, &chunks)? {
         Some("a bucket")
     } else if !are_units_copied(alloc)? {
         Some("a list")
@@ -126,6 +130,7 @@ fn are_versions_copied<L: Ledger>(alloc: Global, row: Row, blank: Blank) -> Resu
         return Ok(false);
     }
     versions.put(row);
+    versions.known();
     let copy = versions.copy()?;
     let found = copy.live(&name, &mut steps);
     Ok(found.is_some_and(|row| row.generation == GENERATION))
@@ -140,13 +145,13 @@ fn is_bucket_copied(alloc: Global) -> Result<bool, AllocError> {
         updated: GENERATION,
         settings: Settings {
             location: Text::from_str(alloc, "US")?,
-            storage_class: Text::from_str(alloc, "STANDARD")?,
+            storage_class: Text::from_str(alloc, DEFAULT_CLASS)?,
             labels: Pairs::new(alloc),
             lifecycle: None,
             versioned: true,
             default_event_hold: false,
             retention: None,
-            soft_seconds: 604_800,
+            soft_seconds: DEFAULT_SOFT_SECONDS,
             soft_since: GENERATION,
         },
     };
@@ -154,8 +159,25 @@ fn is_bucket_copied(alloc: Global) -> Result<bool, AllocError> {
     Ok(
         copy.name.as_str() == "tub"
             && copy.settings.versioned
-            && copy.settings.soft_seconds == 604_800,
+            && copy.settings.soft_seconds == DEFAULT_SOFT_SECONDS,
     )
+}
+
+// The bucket of a shard that was asked for one insert.
+fn is_slot_copied(alloc: Global, chunks: &Chunks) -> Result<bool, AllocError> {
+    let mut shard = Shard::new(alloc, chunks);
+    let Some(insert) = command_of(alloc, chunks, "insert")? else {
+        return Ok(false);
+    };
+    if let Err(command) = shard.apply(0, 0, GENERATION, insert) {
+        drop(command);
+        return Err(AllocError);
+    }
+    let Some(bucket) = shard.slot(&tub(alloc)?) else {
+        return Ok(false);
+    };
+    bucket.copy()?;
+    Ok(true)
 }
 
 fn are_units_copied(alloc: Global) -> Result<bool, AllocError> {

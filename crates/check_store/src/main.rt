@@ -2,66 +2,41 @@
 #![tactic(auto)]
 
 mod answers;
+mod bucket_commands;
 mod calls;
 mod commands;
 mod copies;
-mod rows;
+mod joins;
 mod steps;
+mod upload_commands;
+mod version_commands;
 
+use check_rows::{first_failure, read_rows, report, status};
 use copies::first_bad_copy;
-use rows::{Row, read_rows};
+use gcs_chunks::Chunks;
 use std::process::ExitCode;
 use std::rt::Files;
 use std::{env, fs, io};
-use steps::first_failure;
+use steps::Store;
 
 fn main(rt: HostRuntime) -> io::Result<ExitCode> {
     let mut all_ok = true;
     for path in env::args(&rt)?.skip(1) {
         all_ok &= run_file(&rt, path.as_str())?;
     }
-    all_ok &= run_copies(&rt)?;
-    Ok(if all_ok {
-        ExitCode::SUCCESS
-    } else {
-        ExitCode::FAILURE
-    })
+    let copied = first_bad_copy(rt.alloc())?;
+    all_ok &= report(&rt, "copies_equal_their_sources", "copies", copied)?;
+    Ok(status(all_ok))
 }
 
-// Prints a line for each row of the file, and answers whether all rows are as they must be.
+// Prints a line for each row of the file, and answers whether all rows are as they must be. Each row has a store of its own.
 fn run_file(rt: &(impl Files + Print + AllocGlobal), path: &str) -> io::Result<bool> {
     let text = fs::read_to_string(rt, path)?;
-    let rows = read_rows(rt.alloc(), text.as_str())?;
     let mut all_ok = true;
-    for row in &rows {
-        all_ok &= run_row(rt, path, row)?;
+    for row in &read_rows(rt.alloc(), text.as_str())? {
+        let chunks = Chunks::new(rt.alloc())?;
+        let failure = first_failure(row, &mut Store::new(rt.alloc(), &chunks))?;
+        all_ok &= report(rt, row.name, path, failure)?;
     }
     Ok(all_ok)
-}
-
-fn run_row(rt: &(impl Print + AllocGlobal), path: &str, row: &Row<'_>) -> io::Result<bool> {
-    let name = row.name;
-    match first_failure(rt.alloc(), row)? {
-        None => {
-            println!(rt; "ok {name}")?;
-            Ok(true)
-        }
-        Some(failure) => {
-            println!(rt; "FAILED {name}: {path}: {failure}")?;
-            Ok(false)
-        }
-    }
-}
-
-fn run_copies(rt: &(impl Print + AllocGlobal)) -> io::Result<bool> {
-    match first_bad_copy(rt.alloc())? {
-        None => {
-            println!(rt; "ok copies_equal_their_sources")?;
-            Ok(true)
-        }
-        Some(copied) => {
-            println!(rt; "FAILED copies_equal_their_sources: {copied}")?;
-            Ok(false)
-        }
-    }
 }
