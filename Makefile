@@ -1,5 +1,5 @@
 # The commands for this repository, a line each.
-.PHONY: check ci fmt style run bench
+.PHONY: check ci fmt style run bench bench-uploads
 
 check:; rt all check
 ci:; rt ci
@@ -7,3 +7,4 @@ fmt:; for crate in crates/*/; do (cd $$crate && rt fmt) || exit 1; done
 style:; python3 tools/style.py; python3 tools/unused.py
 run:; ./run serve 127.0.0.1:4443 1
 bench:; bench/run
+bench-uploads:; bench/uploads
