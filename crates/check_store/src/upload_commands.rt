@@ -82,6 +82,7 @@ fn next_number(numbers: &str) -> (Option<u64>, &str) {
 }
 
 // So many zeros, and none where they are too many for one piece.
+#[tactic(auto, unfolding(gcs_chunks::specs::Content::bytes_of, gcs_chunks::specs::Content::no_content))]
 fn zeros(alloc: Global, size: u64) -> Result<Content, AllocError> {
     let mut content = Content::empty(alloc);
     if size > 0 && size <= LONGEST_PIECE as u64 {
