@@ -4,7 +4,8 @@ use crate::plain::{PlainPage, PlainUnit, page_of};
 use crate::plan::MOMENT;
 use crate::store::Bucket;
 use gcs_listing::page;
-use gcs_meaning::{Page, Steps, Unit};
+use gcs_meaning::{Page, Unit};
+use gcs_versions::Steps;
 use std::alloc::{AllocError, Global};
 use std::sync::ledger::Ledger;
 

@@ -4,8 +4,8 @@ ghost use Rattle.gcs_meaning.specs.Choosing.{is_live};
 
 use crate::plan::Planned;
 use gcs_chunks::{Chunks, Content};
-use gcs_meaning::{Hashed, Kind, Meta, Name, Pairs, Retired, Row, Settings, Steps, Text};
-use gcs_versions::{Versions, is_readable};
+use gcs_meaning::{Hashed, Kind, Meta, Name, Pairs, Retired, Row, Settings, Text};
+use gcs_versions::{Steps, Versions, is_readable};
 use std::alloc::{AllocError, Global};
 use std::sync::ledger::Ledger;
 

@@ -181,11 +181,6 @@ unfolding aged_state
 end_missing slot t number s lives none =
     ap (λ alive. end_at number (aged_alive t alive)) lives ∙ ap (λ found. found_end found s.settings) (none_aged t number s.uploads none)
 
--- ---- a piece
-pub append_dead : (slot : Slot) (t number : ℕ) (offset given : Option ℕ) (piece : Whole) → slot.alive ≡ None → append_step (aged slot t) number offset given piece ≡ (Refused NoBucket, aged slot t)
-unfolding append_step
-append_dead slot t number offset given piece dead = rw dead refl
-
 pub append_ended : (slot : Slot) (number : ℕ) (offset given : Option ℕ) (piece : Whole) (answer : Answer) → end_at number slot.alive ≡ Some answer
     → append_step slot number offset given piece ≡ (answer, slot)
 unfolding append_step append_at
@@ -231,11 +226,6 @@ append_under_way number offset given piece uploads left upload told at is done =
     tested_under_way (piece_refusal upload offset given piece) upload (grown_upload upload offset given piece) told
     (sym (ap (λ found. (called_at found (λ upload. appended upload offset given piece) number uploads).0) at ∙ ap (λ state. (appended_in state upload offset given piece).0) is)
     ∙ ap (λ (called : Outcome × UploadMap). called.0) done)
-
--- ---- the cancelling
-pub cancel_dead : (slot : Slot) (t number : ℕ) → slot.alive ≡ None → cancel_step (aged slot t) number ≡ (Refused NoBucket, aged slot t)
-unfolding cancel_step
-cancel_dead slot t number dead = rw dead refl
 
 pub cancel_ended : (slot : Slot) (number : ℕ) (answer : Answer) → end_at number slot.alive ≡ Some answer → cancel_step slot number ≡ (answer, slot)
 unfolding cancel_step cancel_at

@@ -10,7 +10,8 @@ ghost use Rattle.gcs_bucket.specs.Covered.{KeepsCovered};
 
 use crate::slot::Slot;
 use gcs_chunks::Chunks;
-use gcs_meaning::{Answer, BucketName, BucketRow, Command, Steps};
+use gcs_meaning::{Answer, BucketName, BucketRow, Command};
+use gcs_versions::Steps;
 use std::alloc::{AllocError, Global};
 use std::marker::Model;
 use std::sync::ledger::Ledger;

@@ -12,7 +12,8 @@ ghost use Rattle.gcs_bucket.specs.Slot.{IsReady, value_of};
 use crate::restore::NO_EXPECT;
 use crate::slot::Slot;
 use gcs_compose::{ComposeFault, Composed, compose};
-use gcs_meaning::{Answer, List, Meta, Name, Part, Pre, Reason, Steps, effective};
+use gcs_meaning::{Answer, List, Meta, Name, Part, Pre, Reason, effective};
+use gcs_versions::Steps;
 use std::alloc::AllocError;
 use std::sync::ledger::Ledger;
 

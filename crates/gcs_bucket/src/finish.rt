@@ -13,7 +13,8 @@ use crate::ended::ended;
 use crate::put::Prepared;
 use crate::slot::Slot;
 use gcs_chunks::Chunks;
-use gcs_meaning::{Answer, Copied, Hashed, Reason, Row, Steps, Upload, effective};
+use gcs_meaning::{Answer, Copied, Hashed, Reason, Row, Upload, effective};
+use gcs_versions::Steps;
 use std::alloc::AllocError;
 use std::sync::ledger::Ledger;
 

@@ -10,8 +10,8 @@ ghost use Rattle.gcs_bucket.specs.Slot.{value_of};
 
 use crate::refusals::failed_precondition;
 use crate::slot::Slot;
-use gcs_meaning::{Answer, Copied, Kind, Name, Pre, Reason, Row, Steps, effective};
-use gcs_versions::{Versions, is_readable, stays};
+use gcs_meaning::{Answer, Copied, Kind, Name, Pre, Reason, Row, effective};
+use gcs_versions::{Steps, Versions, is_readable, stays};
 use std::alloc::AllocError;
 use std::sync::ledger::Ledger;
 

@@ -32,5 +32,5 @@ mod start;
 
 pub use bucket::Bucket;
 pub use desk::PlainDesk;
-pub use gcs_meaning::Steps;
+pub use gcs_versions::Steps;
 pub use shard::Shard;

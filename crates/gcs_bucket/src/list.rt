@@ -7,7 +7,8 @@ ghost use Rattle.gcs_bucket.specs.Slot.{value_of};
 
 use crate::slot::Slot;
 use gcs_listing::page;
-use gcs_meaning::{Answer, PageQuery, Reason, Steps, effective};
+use gcs_meaning::{Answer, PageQuery, Reason, effective};
+use gcs_versions::Steps;
 use std::alloc::AllocError;
 use std::sync::ledger::Ledger;
 

@@ -10,9 +10,8 @@ ghost use Rattle.gcs_bucket.specs.Slot.{IsReady, value_of};
 use crate::alive::State;
 use crate::refusals::{earlier_time, failed_precondition, too_much_custom};
 use crate::slot::Slot;
-use gcs_meaning::{
-    Answer, Copied, Meta, MetaChange, Name, Pre, Reason, Row, Settings, Steps, effective,
-};
+use gcs_meaning::{Answer, Copied, Meta, MetaChange, Name, Pre, Reason, Row, Settings, effective};
+use gcs_versions::Steps;
 use std::alloc::AllocError;
 use std::sync::ledger::Ledger;
 

@@ -14,8 +14,9 @@ ghost use Rattle.gcs_bucket.specs.Slot.{IsReady, value_of};
 use crate::alive::State;
 use crate::refusals::{failed_precondition, kept_version};
 use crate::slot::Slot;
-use gcs_meaning::{Answer, Name, Pre, Reason, Row, Settings, Steps, effective};
+use gcs_meaning::{Answer, Name, Pre, Reason, Row, Settings, effective};
 use gcs_policy::retire;
+use gcs_versions::Steps;
 use std::alloc::AllocError;
 use std::sync::ledger::Ledger;
 

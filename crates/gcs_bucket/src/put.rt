@@ -18,9 +18,9 @@ use crate::alive::State;
 use crate::refusals::{differing_digest, failed_precondition, kept_version, too_large};
 use crate::slot::Slot;
 use gcs_meaning::{
-    Answer, Copied, Expect, Hashed, Kind, Meta, Name, Pre, Reason, Row, Settings, Steps, Text,
-    effective,
+    Answer, Copied, Expect, Hashed, Kind, Meta, Name, Pre, Reason, Row, Settings, Text, effective,
 };
+use gcs_versions::Steps;
 use std::alloc::AllocError;
 use std::sync::ledger::Ledger;
 

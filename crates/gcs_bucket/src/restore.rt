@@ -9,7 +9,8 @@ ghost use Rattle.gcs_bucket.specs.Slot.{IsReady, value_of};
 
 use crate::get::find_soft;
 use crate::slot::Slot;
-use gcs_meaning::{Answer, Copied, Expect, Hashed, Meta, Name, Pre, Reason, Steps, effective};
+use gcs_meaning::{Answer, Copied, Expect, Hashed, Meta, Name, Pre, Reason, effective};
+use gcs_versions::Steps;
 use std::alloc::AllocError;
 use std::sync::ledger::Ledger;
 

@@ -10,7 +10,8 @@ ghost use Rattle.gcs_bucket.specs.Slot.{IsReady, value_of};
 use crate::alive::State;
 use crate::graves::{Grave, age_graves, copy_graves};
 use gcs_chunks::Chunks;
-use gcs_meaning::{Answer, Command, Name, Steps};
+use gcs_meaning::{Answer, Command, Name};
+use gcs_versions::Steps;
 use std::alloc::{AllocError, Global};
 use std::sync::ledger::Ledger;
 

@@ -9,7 +9,8 @@ ghost use Rattle.gcs_bucket.specs.Shard.{AreSmall, IsGapAt, IsSlotAt, IsSteppedA
 use crate::bucket::Bucket;
 use crate::bucket_lists::answer_unnamed;
 use gcs_chunks::Chunks;
-use gcs_meaning::{Answer, BucketName, Command, Copied, Reason, Steps};
+use gcs_meaning::{Answer, BucketName, Command, Copied, Reason};
+use gcs_versions::Steps;
 use std::alloc::{AllocError, Global};
 use std::cmp::Ordering;
 use std::sync::ledger::{Blank, Ledger};

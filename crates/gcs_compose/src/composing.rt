@@ -8,8 +8,8 @@ ghost use Rattle.gcs_meaning.specs.Tests.{largest_object};
 ghost use Rattle.gcs_compose.specs.Faults.{IsLackOf};
 
 use crate::fault::ComposeFault;
-use gcs_meaning::{Hashed, List, Part, Reason, Row, Steps};
-use gcs_versions::Versions;
+use gcs_meaning::{Hashed, List, Part, Reason, Row};
+use gcs_versions::{Steps, Versions};
 use std::alloc::{AllocError, Global};
 use std::sync::ledger::Ledger;
 

@@ -9,8 +9,8 @@ ghost use Rattle.gcs_listing.specs.Seeking.{listed_rows, passed_count, AreAtMost
 use crate::bounds::{Bound, bound_after, past_text};
 use crate::folding::{fold, is_kept, is_later, item_number};
 use crate::seeking::first_listed;
-use gcs_meaning::{Copied, PageQuery, Row, Steps, Text, Unit, View};
-use gcs_versions::Versions;
+use gcs_meaning::{Copied, PageQuery, Row, Text, Unit, View};
+use gcs_versions::{Steps, Versions};
 use std::alloc::{AllocError, Global};
 use std::sync::ledger::Ledger;
 

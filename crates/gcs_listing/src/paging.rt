@@ -9,8 +9,8 @@ ghost use Rattle.gcs_listing.specs.Seeking.{gone_count, listed_rows, passed_coun
 
 use crate::bounds::{Bound, first_bound};
 use crate::looking::{Found, next_unit};
-use gcs_meaning::{Copied, List, Page, PageQuery, Row, Settings, Steps, Text, Unit};
-use gcs_versions::Versions;
+use gcs_meaning::{Copied, List, Page, PageQuery, Row, Settings, Text, Unit};
+use gcs_versions::{Steps, Versions};
 use std::alloc::{AllocError, Global};
 use std::sync::ledger::Ledger;
 

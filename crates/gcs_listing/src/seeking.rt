@@ -7,8 +7,8 @@ ghost use Rattle.gcs_listing.specs.Looking.{passed_at};
 ghost use Rattle.gcs_listing.specs.Seeking.{listed_rows, passed_count, AreAtMost};
 
 use crate::bounds::{Bound, after_version};
-use gcs_meaning::{Row, Steps, View};
-use gcs_versions::{Versions, stays};
+use gcs_meaning::{Row, View};
+use gcs_versions::{Steps, Versions, stays};
 use std::alloc::{AllocError, Global};
 use std::sync::ledger::Ledger;
 

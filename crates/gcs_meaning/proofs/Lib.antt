@@ -1,4 +1,5 @@
 pub mod Answering
+pub mod Apart
 pub mod Bounded
 pub mod Cases
 pub mod Chosen

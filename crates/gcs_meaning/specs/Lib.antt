@@ -40,5 +40,6 @@ pub mod History
 pub mod Bounds
 pub mod Runs
 pub mod Making
+pub mod Apart
 pub mod Desk
 pub mod Laws

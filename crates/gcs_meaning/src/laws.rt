@@ -1,4 +1,5 @@
 //! Laws over every slot, history and command. Each is the contract of a function that does nothing.
+ghost use Rattle.gcs_meaning.specs.Apart.{BucketsStandApart};
 ghost use Rattle.gcs_meaning.specs.Laws.{AnswersFit, CoveredIsKept, FitIsKept, GenerationsRise, LockedIsKept, SmallIsKept, SoftIsKept};
 
 /// The versions that are made under a bucket's name have greater and greater generations, also over its deletion and restore; and
@@ -50,4 +51,10 @@ pub fn law_small()
 /// Each command gets an answer of its kind, and the answer at an entry is found by the entry's numbers.
 pub fn law_answers()
     ensures { AnswersFit }
+{}
+
+/// Buckets stand apart from each other: a bucket's slot after a history of its shard, and the answer at each entry that names the
+/// bucket, are those after its own entries alone. So a history of a shard is one history for each of its buckets.
+pub fn law_buckets()
+    ensures { BucketsStandApart }
 {}

@@ -20,7 +20,6 @@ mod reason;
 mod refusals;
 mod rewriting;
 mod settings;
-mod steps;
 mod text;
 mod uploading;
 mod version;
@@ -31,7 +30,8 @@ pub use copying::Copied;
 pub use desk::{Desk, Unheld};
 pub use hashed::Hashed;
 pub use laws::{
-    law_answers, law_covered, law_fit, law_generations, law_locked, law_small, law_soft,
+    law_answers, law_buckets, law_covered, law_fit, law_generations, law_locked, law_small,
+    law_soft,
 };
 pub use limits::{
     DEFAULT_CLASS, DEFAULT_CONTENT_TYPE, DEFAULT_SOFT_SECONDS, LARGEST_CUSTOM, LARGEST_OBJECT,
@@ -47,7 +47,6 @@ pub use reason::{Digest, Key, Reason};
 pub use refusals::key_text;
 pub use rewriting::{RewriteReply, RewriteToken};
 pub use settings::{Meta, Pre, Retention, Settings};
-pub use steps::Steps;
 pub use text::Text;
 pub use uploading::{Progress, Upload, UploadState};
 pub use version::{BucketRow, Expect, Kind, Part, Row, RowFacts};

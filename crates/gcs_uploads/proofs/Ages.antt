@@ -110,17 +110,6 @@ cancel_aged t number uploads e =
     ap (λ found. called_at found cancelled number (each (aged_upload t) uploads)) (lookup-map_values (aged_upload t) (is_number number) uploads)
     ∙ called_aged t number cancelled uploads (cancelled_late t) (upload_of number uploads) e
 
--- ---- an upload that is late
-expired_in : (state : UploadState) (past : Bool) → (is_running state && past) ≡ true → expired_if past state ≡ Expired
-expired_in Running past e = rw e refl
-expired_in (Done row) past e = absurd (cc)
-expired_in Cancelled past e = absurd (cc)
-expired_in Expired past e = refl
-
--- it expires
-pub aged_late : (t : ℕ) (upload : Upload) → late t upload ≡ true → aged_upload t upload ≡ in_state Expired upload
-aged_late t upload e = ap (λ state. in_state state upload) (expired_in upload.state (nat_le (upload.start + upload_time) t) e)
-
 -- the upload of a number once the uploads have aged
 pub upload_aged : (t number : ℕ) (uploads : UploadMap) → upload_of number (aged_uploads t uploads) ≡ option_map (aged_upload t) (upload_of number uploads)
 unfolding aged_uploads

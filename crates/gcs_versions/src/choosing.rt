@@ -5,7 +5,8 @@ ghost use Rattle.gcs_meaning.specs.Choosing.{chosen_row};
 
 use crate::kinds::is_readable;
 use crate::versions::Versions;
-use gcs_meaning::{Name, Row, Steps};
+use gcs_index::Steps;
+use gcs_meaning::{Name, Row};
 use std::sync::ledger::Ledger;
 
 impl Versions {

@@ -7,6 +7,6 @@ mod places;
 mod rows;
 mod versions;
 
-pub use gcs_meaning::Steps;
+pub use gcs_index::Steps;
 pub use kinds::{is_readable, stays};
 pub use versions::Versions;
