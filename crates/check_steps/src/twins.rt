@@ -1,0 +1,52 @@
+//! The store and the plain store, side by side.
+ghost use Rattle.gcs_meaning.specs.Step.{IsInRange};
+
+use crate::comparing::is_same;
+use crate::kept::Slot;
+use crate::kinds::{Missing, kind_text};
+use gcs_bucket::Shard;
+use gcs_chunks::Chunks;
+use gcs_meaning::Command;
+use std::alloc::{AllocError, Global};
+
+/// A shard of the store with the name of one bucket, and the plain store of that name.
+#[derive(Drop)]
+pub struct Twins<'c> {
+    alloc: Global,
+    chunks: &'c Chunks,
+    shard: Shard<'c>,
+    pub slot: Slot,
+}
+
+impl<'c> Twins<'c> {
+    /// Both without a bucket.
+    pub fn new(alloc: Global, chunks: &'c Chunks) -> Twins<'c> {
+        Twins {
+            alloc,
+            chunks,
+            shard: Shard::new(alloc, chunks),
+            slot: Slot::new(alloc),
+        }
+    }
+
+    /// Makes the command on both, and answers what was wanted where the store answers something else. `Err`: no memory.
+    pub fn step(
+        &mut self,
+        moment: u64,
+        command: Command,
+        missing: &mut Missing,
+    ) -> Result<Option<String>, AllocError>
+        requires { IsInRange command }
+    {
+        let wanted = self.slot.apply(moment, &command, self.chunks)?;
+        let Ok(found) = self.shard.apply(0, 0, moment, command) else {
+            return Err(AllocError);
+        };
+        let text = kind_text(self.alloc, &wanted)?;
+        missing.note(text.as_str());
+        if is_same(self.alloc, self.chunks, &found, &wanted, &self.slot)? {
+            return Ok(None);
+        }
+        Ok(Some(text))
+    }
+}
