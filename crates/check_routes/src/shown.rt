@@ -1,6 +1,6 @@
 //! What a request is, as a line: its call or its refusal.
 use gcs_meaning::{Pre, Reason, Text};
-use gcs_route::{Call, MaskPart, RouteFault, route};
+use gcs_route::{Call, MaskPart, RouteFault, UploadKind, route};
 use std::alloc::{AllocError, Global};
 
 /// The call of a request, shown by a copy of it, or the status and the message of its refusal. `Err`: no memory.
@@ -48,7 +48,8 @@ fn shown_call(alloc: Global, call: &Call) -> Result<String, AllocError> {
     line.add_text("page_token", str_of(&call.page_token))?;
     line.add_text("rewrite_token", str_of(&call.rewrite_token))?;
     line.add_number("per_call", call.per_call)?;
-    line.add_flag("upload", call.upload.is_some())?;
+    line.add_text("upload", upload_of(call.upload))?;
+    line.add_number("upload_id", call.upload_id)?;
     line.add_text("name", str_of(&call.name))?;
     line.add_text("encoding", str_of(&call.encoding))?;
     line.add_mask(&call.mask)?;
@@ -58,6 +59,16 @@ fn shown_call(alloc: Global, call: &Call) -> Result<String, AllocError> {
 fn str_of(text: &Option<Text>) -> Option<&str> {
     match text {
         Some(text) => Some(text.as_str()),
+        None => None,
+    }
+}
+
+// The way of an upload as a query names it.
+fn upload_of(upload: Option<UploadKind>) -> Option<&'static str> {
+    match upload {
+        Some(UploadKind::Media) => Some("media"),
+        Some(UploadKind::Multipart) => Some("multipart"),
+        Some(UploadKind::Resumable) => Some("resumable"),
         None => None,
     }
 }

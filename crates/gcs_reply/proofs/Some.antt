@@ -38,3 +38,6 @@ reply-some form q (reply.Buckets rows token) e = head-some _ _ _ _ _ e
 reply-some form q (reply.Page page) e = head-some _ _ _ _ _ e
 reply-some form q (reply.Rewritten told object) e = head-some _ _ _ _ _ e
 reply-some form q (reply.Media row part) e = head-some _ _ _ _ _ e
+reply-some form q (reply.Started upload) e = head-some _ _ _ _ _ e
+reply-some form q (reply.Kept count) e = head-some _ _ _ _ _ e
+reply-some form q reply.Cancelled e = head-some _ _ _ _ _ e

@@ -1,5 +1,5 @@
 -- What is written for a reply (RFC 9112, 4 to 6).
-use Rattle.std.specs.Prelude.{ℕ, ◌+◌, List, [], ◌∷◌, ◌++◌, length, slice_range, Bool, Option, Some, None, option_map, if◌then◌else◌, codes, decimal, false}
+use Rattle.std.specs.Prelude.{ℕ, zero, suc, ◌+◌, List, [], ◌∷◌, ◌++◌, length, slice_range, Bool, Option, Some, None, option_map, if◌then◌else◌, codes, decimal, false}
 use Rattle.serde_json.specs.Data.{Data}
 use Rattle.serde_json.specs.Written.{compact_text}
 use Rattle.gcs_fields.specs.Views.{mask_of}
@@ -25,14 +25,25 @@ use Rattle.gcs_meaning.specs.Refusals.{status_of}
 use Rattle.gcs_render.specs.Lists.{buckets_data, list_data, rewrite_data, version_data}
 use Rattle.gcs_render.specs.Resources.{bucket_data, object_data}
 use Rattle.gcs_render.specs.Refusals.{error_data}
+use Rattle.gcs_rewrite.specs.declared.request.Given.{Given}
+use Rattle.gcs_rewrite.specs.declared.request.Given.TheVariants.{Begin}
 use Rattle.gcs_rewrite.specs.declared.request.Request.{Request}
 use Rattle.gcs_rewrite.specs.declared.replies.Reply.{Reply}
-use Rattle.gcs_rewrite.specs.declared.replies.Reply.TheVariants.{Refused, Object, Bucket, Buckets, Page, Rewritten, Media, NoContent, NotModified}
+use Rattle.gcs_rewrite.specs.declared.replies.Reply.TheVariants.{Refused, Object, Bucket, Buckets, Page, Rewritten, Media, Started, Kept, Cancelled, NoContent, NotModified}
 use Rattle.gcs_reply.specs.declared.form.Form.{Form}
 
 -- the bucket that a request names last: of a copy that of its destination
 abbrev pub bucket_in : Request → List ℕ
 bucket_in request = last_bucket request.call
+
+-- the host that the beginning of an upload is sent to, where it names one
+abbrev pub host_given : Given → Option (List ℕ)
+host_given (Begin body kind total host) = host
+host_given _ = None
+
+-- the host that a request is sent to, where it begins an upload and names one
+abbrev pub host_of : Request → Option (List ℕ)
+host_of request = host_given request.given
 
 -- what a mask leaves of a resource (Google's page "Performance tips", "Partial response")
 abbrev pub masked_by : MaskPart → Data → Data
@@ -51,7 +62,7 @@ abbrev pub media_status : Option (ℕ × ℕ) → ℕ
 media_status None = 200
 media_status (Some part) = 206
 
--- the status of a reply
+-- the status of a reply; of an upload that is not whole 308, and of one that is cancelled 499 (Google's page "Resumable uploads")
 abbrev pub status_in : Reply → ℕ
 status_in (Refused reason) = status_of reason
 status_in (Object row settings) = 200
@@ -59,6 +70,9 @@ status_in (Bucket row) = 200
 status_in (Buckets rows token) = 200
 status_in (Page page) = 200
 status_in (Rewritten reply object) = 200
+status_in (Started upload) = 200
+status_in (Kept count) = 308
+status_in Cancelled = 499
 status_in NoContent = 204
 status_in NotModified = 304
 status_in (Media row part) = media_status part
@@ -159,17 +173,42 @@ refusal_lines reason = json_lines (unmet_size reason)
 unfoldable pub media_lines : Row → Option (ℕ × ℕ) → List Line
 media_lines row part = content_lines row part ++ (meta_lines row.meta ++ version_lines row)
 
--- the fields of a reply, beside its length and its ending
-abbrev pub lines_in : Reply → List Line
-lines_in (Refused reason) = refusal_lines reason
-lines_in (Object row settings) = resource_lines
-lines_in (Bucket row) = resource_lines
-lines_in (Buckets rows token) = resource_lines
-lines_in (Page page) = resource_lines
-lines_in (Rewritten reply object) = resource_lines
-lines_in NoContent = []
-lines_in NotModified = []
-lines_in (Media row part) = media_lines row part
+-- the path and the query that the pieces of an upload are sent to (Google's page "Resumable uploads")
+abbrev pub upload_path : List ℕ → ℕ → List ℕ
+upload_path bucket upload = codes "/upload/storage/v1/b/" ++ (bucket ++ (codes "/o?uploadType=resumable&upload_id=" ++ decimal upload))
+
+-- where they are sent: at the host, where one is named (RFC 9110, 10.2.2)
+abbrev pub location_text : Option (List ℕ) → List ℕ → ℕ → List ℕ
+location_text None bucket upload = upload_path bucket upload
+location_text (Some host) bucket upload = codes "http://" ++ (host ++ upload_path bucket upload)
+
+-- the first and the last of the bytes that are kept, where there are any (Google's page "Resumable uploads")
+abbrev pub kept_text : ℕ → Option (List ℕ)
+kept_text zero = None
+kept_text (suc last) = Some (codes "bytes=0-" ++ decimal last)
+
+-- the fields of an upload that has begun
+abbrev pub started_lines : Request → ℕ → List Line
+started_lines request upload = (codes "Location", Some (location_text (host_of request) (bucket_in request) upload)) ∷ []
+
+-- the fields of an upload of which so many bytes are kept
+abbrev pub kept_lines : ℕ → List Line
+kept_lines count = (codes "Range", kept_text count) ∷ []
+
+-- the fields of a reply to a request, beside its length and its ending
+abbrev pub lines_in : Request → Reply → List Line
+lines_in q (Refused reason) = refusal_lines reason
+lines_in q (Object row settings) = resource_lines
+lines_in q (Bucket row) = resource_lines
+lines_in q (Buckets rows token) = resource_lines
+lines_in q (Page page) = resource_lines
+lines_in q (Rewritten reply object) = resource_lines
+lines_in q (Started upload) = started_lines q upload
+lines_in q (Kept count) = kept_lines count
+lines_in q Cancelled = []
+lines_in q NoContent = []
+lines_in q NotModified = []
+lines_in q (Media row part) = media_lines row part
 
 -- ---- body
 
@@ -186,6 +225,9 @@ body_in q (Bucket row) = compact_text (masked q (bucket_data row))
 body_in q (Buckets rows token) = compact_text (masked q (buckets_data rows token))
 body_in q (Page page) = compact_text (masked q (list_data (bucket_in q) page))
 body_in q (Rewritten reply object) = compact_text (masked q (rewrite_data reply (version_data (bucket_in q) object)))
+body_in q (Started upload) = []
+body_in q (Kept count) = []
+body_in q Cancelled = []
 body_in q NoContent = []
 body_in q NotModified = []
 body_in q (Media row part) = part_bytes part (bytes_in row.hashed)
@@ -208,7 +250,7 @@ refusal_text form reason = head_and_body form (status_of reason) (standing (refu
 unfoldable pub reply_text : Form → Request → Reply → List ℕ
 reply_text form q NoContent = bare_text form (status_in NoContent)
 reply_text form q NotModified = bare_text form (status_in NotModified)
-reply_text form q reply = head_and_body form (status_in reply) (standing (lines_in reply)) (body_in q reply)
+reply_text form q reply = head_and_body form (status_in reply) (standing (lines_in q reply)) (body_in q reply)
 
 -- the constant replies: want of memory before any step, and after one
 abbrev pub memory_text : Form → Bool → List ℕ

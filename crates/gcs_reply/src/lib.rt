@@ -8,6 +8,7 @@ mod head_lines;
 mod json;
 mod media;
 mod outgoing;
+mod resumable;
 mod rewriting;
 mod turned;
 mod writing;

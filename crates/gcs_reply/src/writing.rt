@@ -8,6 +8,7 @@ use crate::form::Form;
 use crate::json::{bucket_reply, buckets_reply, page_reply, refusal_reply, resource_reply};
 use crate::media::media_reply;
 use crate::outgoing::Outgoing;
+use crate::resumable::{cancelled_reply, kept_reply, started_reply};
 use crate::rewriting::rewrite_reply;
 use gcs_http_in::FrameFault;
 use gcs_http_out::{Ending, Fixed, FixedText, fixed, push_end, push_status};
@@ -36,6 +37,9 @@ pub fn write_reply(
         Reply::Buckets(rows, token) => buckets_reply(alloc, form, request, rows, token),
         Reply::Page(page) => page_reply(alloc, form, request, page),
         Reply::Rewritten { reply, object } => rewrite_reply(alloc, form, request, reply, object),
+        Reply::Started(upload) => started_reply(alloc, form, request, *upload),
+        Reply::Kept(count) => kept_reply(alloc, form, *count),
+        Reply::Cancelled => cancelled_reply(alloc, form),
         Reply::NoContent => bare_reply(alloc, form, 204),
         Reply::NotModified => bare_reply(alloc, form, 304),
     }

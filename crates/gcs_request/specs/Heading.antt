@@ -1,7 +1,7 @@
 -- What a head asks for, before its body has come.
-use Rattle.std.specs.Prelude.{◌≡◌, ◌⊎◌, ℕ, List, Bool, true, false, Option, Some, None, Result, Ok, Err, if◌then◌else◌}
+use Rattle.std.specs.Prelude.{◌≡◌, ◌⊎◌, ℕ, List, Bool, Option, Some, None, Result, Ok, Err, if◌then◌else◌}
 use Rattle.gcs_http_in.specs.Head.{Head}
-use Rattle.gcs_meaning.specs.declared.reason.Key.TheVariants.{HeadContentType}
+use Rattle.gcs_meaning.specs.declared.reason.Key.TheVariants.{ContentRange, HeadContentType}
 use Rattle.gcs_meaning.specs.declared.reason.Reason.{Reason}
 use Rattle.gcs_meaning.specs.declared.reason.Reason.TheVariants.{Invalid}
 use Rattle.std.specs.Result.{result_err}
@@ -9,10 +9,10 @@ use Rattle.gcs_meaning.specs.Tests.{or_else}
 use Rattle.gcs_multipart.specs.Delimiter.{IsBoundary}
 use Rattle.gcs_route.specs.declared.call.Call.{Call}
 use Rattle.gcs_route.specs.declared.call.UploadKind.{UploadKind}
-use Rattle.gcs_route.specs.declared.call.UploadKind.TheVariants.{Multipart}
+use Rattle.gcs_route.specs.declared.call.UploadKind.TheVariants.{Multipart, Resumable}
 use Rattle.gcs_route.specs.declared.fault.RouteFault.TheVariants as fault
 use Rattle.gcs_route.specs.declared.kind.RequestKind.{RequestKind}
-use Rattle.gcs_route.specs.declared.kind.RequestKind.TheVariants.{BucketInsert, BucketPatch, BucketUpdate, ObjectGet, ObjectPatch, ObjectUpdate, ObjectCompose, ObjectRewrite, ObjectCopy, Upload, Download}
+use Rattle.gcs_route.specs.declared.kind.RequestKind.TheVariants.{BucketInsert, BucketPatch, BucketUpdate, ObjectGet, ObjectPatch, ObjectUpdate, ObjectCompose, ObjectRewrite, ObjectCopy, Upload, UploadPiece, Download}
 use Rattle.gcs_route.specs.Calls.{IsFault}
 use Rattle.gcs_route.specs.Calls as route
 use Rattle.gcs_route.specs.OfCall.{request_kind}
@@ -20,7 +20,9 @@ use Rattle.gcs_request.specs.declared.heading.HeadPart.{HeadPart}
 use Rattle.gcs_request.specs.declared.heading.HeadPart.TheVariants as part
 use Rattle.gcs_request.specs.declared.heading.Heading.{Heading}
 use Rattle.gcs_request.specs.declared.heading.Heading.TheVariants as heading
-use Rattle.gcs_request.specs.Heads.{boundary_in, content_type_of, is_encoded, method_of, range_in}
+use Rattle.gcs_request.specs.declared.piece_ranges.PieceRange.{PieceRange}
+use Rattle.gcs_request.specs.Begins.{begin_part}
+use Rattle.gcs_request.specs.Heads.{boundary_in, content_type_of, is_encoded, method_of, piece_range_in, range_in}
 use Rattle.gcs_request.specs.HeadTests.{head_refusal}
 use Rattle.gcs_rewrite.specs.declared.range.Range.{Range}
 
@@ -33,23 +35,24 @@ abbrev pub parts_part : Option (List ℕ) → Bool → Result HeadPart Reason
 parts_part None encoded = Err (Invalid HeadContentType)
 parts_part (Some boundary) encoded = Ok (part.Parts boundary encoded)
 
--- an upload brings two parts
-abbrev pub is_multipart : Option UploadKind → Bool
-is_multipart (Some Multipart) = true
-is_multipart _ = false
-
--- what the head of an upload gives: two parts, or a content alone, with its type
+-- what the head of an upload gives: two parts, the begin of an upload in pieces, or a content alone, with its type
 abbrev pub upload_part : Option UploadKind → Head → Result HeadPart Reason
-upload_part upload head =
-    if is_multipart upload then parts_part (boundary_in head) (is_encoded head)
-    else Ok (part.Whole (content_type_of head))
+upload_part (Some Multipart) head = parts_part (boundary_in head) (is_encoded head)
+upload_part (Some Resumable) head = begin_part head
+upload_part _ head = Ok (part.Whole (content_type_of head))
 
--- what the head of such a request gives beside its call, or why it is refused: a read gives the range, an upload as above, a JSON
--- body whether it is encoded
+-- what the head of a piece gives: where it lies, which the head has to tell
+abbrev pub piece_part : Option PieceRange → Result HeadPart Reason
+piece_part None = Err (Invalid ContentRange)
+piece_part (Some range) = Ok (part.Piece range)
+
+-- what the head of such a request gives beside its call, or why it is refused: a read gives the range, an upload and a piece of
+-- one as above, a JSON body whether it is encoded
 abbrev pub part_on : RequestKind → Call → Head → Result HeadPart Reason
 part_on ObjectGet call head = Ok (part.Read (range_asked call head))
 part_on Download call head = Ok (part.Read (range_asked call head))
 part_on Upload call head = upload_part call.upload head
+part_on UploadPiece call head = piece_part (piece_range_in head)
 part_on BucketInsert call head = Ok (part.Json (is_encoded head))
 part_on BucketPatch call head = Ok (part.Json (is_encoded head))
 part_on BucketUpdate call head = Ok (part.Json (is_encoded head))

@@ -1,6 +1,7 @@
 -- What a head says, as far as requests are told by it.
-use Rattle.std.specs.Prelude.{◌≡◌, ℕ, ◌==◌, ◌&&◌, not, nat_lt, nat_le, Bool, List, length, codes, is_some, Option, Some, None, if◌then◌else◌}
-use Rattle.std.specs.List.{list_all}
+use Rattle.std.specs.Prelude.{◌≡◌, ℕ, ◌==◌, ◌&&◌, ◌||◌, not, nat_lt, nat_le, Bool, List, length, codes, is_some, Option, Some, None, if◌then◌else◌}
+use Rattle.std.specs.Char.{is_ascii_alphanumeric}
+use Rattle.std.specs.List.{list_all, list_any}
 use Rattle.std.specs.Option.{option_copied}
 use Rattle.std.specs.Str.{bytes_eq, is_utf8}
 use Rattle.gcs_http_in.specs.Head.{Head}
@@ -9,6 +10,8 @@ use Rattle.gcs_multipart.specs.ContentType.{boundary_of}
 use Rattle.gcs_request.specs.declared.heads.HeadFields.{HeadFields}
 use Rattle.gcs_rewrite.specs.declared.range.Range.{Range}
 use Rattle.gcs_request.specs.Ranges.{read_range}
+use Rattle.gcs_request.specs.declared.piece_ranges.PieceRange.{PieceRange}
+use Rattle.gcs_request.specs.PieceRanges.{read_piece_range}
 
 -- the value of the first field of a name
 abbrev pub field_of : List ℕ → Head → Option (List ℕ)
@@ -22,6 +25,10 @@ pub record IsReadOf (head : Head) (f : HeadFields) : Type 0 where
   pub content_type : option_copied f.content_type ≡ field_of (codes "content-type") head
   pub content_encoding : option_copied f.content_encoding ≡ field_of (codes "content-encoding") head
   pub range : option_copied f.range ≡ field_of (codes "range") head
+  pub content_range : option_copied f.content_range ≡ field_of (codes "content-range") head
+  pub upload_type : option_copied f.upload_type ≡ field_of (codes "x-upload-content-type") head
+  pub upload_length : option_copied f.upload_length ≡ field_of (codes "x-upload-content-length") head
+  pub host : option_copied f.host ≡ field_of (codes "host") head
 
 -- a POST can say that it is a PATCH
 abbrev pub method_by : List ℕ → Option (List ℕ) → List ℕ
@@ -67,3 +74,24 @@ range_of_field (Some value) = read_range value
 -- the range that the head asks for (RFC 9110, 14.2)
 abbrev pub range_in : Head → Option Range
 range_in head = range_of_field (field_of (codes "range") head)
+
+-- what the head tells of a piece of an upload, if it tells anything
+abbrev pub piece_range_in : Head → Option PieceRange
+piece_range_in head = read_piece_range (field_of (codes "content-range") head)
+
+-- a byte of a host and its port: a letter, a digit, or one of these
+abbrev pub is_host_byte : ℕ → Bool
+is_host_byte b = is_ascii_alphanumeric b || list_any (λ mark. b == mark) (codes ".-:[]")
+
+-- a value is a host, with a port or without
+abbrev pub is_host : List ℕ → Bool
+is_host value = nat_lt 0 (length value) && list_all is_host_byte value
+
+-- a value that is no host counts as absent
+abbrev pub host_of_field : Option (List ℕ) → Option (List ℕ)
+host_of_field None = None
+host_of_field (Some value) = if is_host value then Some value else None
+
+-- the host that the message is sent to (RFC 9110, 7.2)
+abbrev pub host_in : Head → Option (List ℕ)
+host_in head = host_of_field (field_of (codes "host") head)

@@ -1,9 +1,12 @@
 pub mod Ranges
+pub mod PieceRanges
 pub mod Heads
 pub mod Rewriting
 pub mod HeadTests
 pub mod JsonBodies
+pub mod UploadJson
 pub mod Parts
+pub mod Begins
 pub mod Heading
 pub mod Bodies
 pub mod Requests

@@ -1,20 +1,16 @@
 -- Uploads whose body has two parts: JSON, and then the content (Cloud Storage, "JSON API multipart uploads"; RFC 2046, 5.1).
-use Rattle.std.specs.Prelude.{◌≡◌, ◌⊎◌, ◌<◌, ℕ, Bool, true, false, List, [], ◌∷◌, length, Option, Some, None, Ok}
+use Rattle.std.specs.Prelude.{◌≡◌, ◌⊎◌, ◌<◌, ℕ, Bool, true, false, List, [], ◌∷◌, length, Option}
 use Rattle.gcs_meaning.specs.Content.{Digested, bytes_in}
-use Rattle.gcs_meaning.specs.declared.reason.Key.TheVariants.{Body, HeadContentEncoding, Name}
+use Rattle.gcs_meaning.specs.declared.reason.Key.TheVariants.{Body, HeadContentEncoding}
 use Rattle.gcs_meaning.specs.declared.reason.Reason.{Reason}
-use Rattle.gcs_meaning.specs.declared.reason.Reason.TheVariants.{Invalid, Required, TooLong}
+use Rattle.gcs_meaning.specs.declared.reason.Reason.TheVariants.{Invalid, TooLong}
 use Rattle.gcs_multipart.specs.Fields.{type_of}
 use Rattle.gcs_multipart.specs.FirstContent.{IsFirstContent}
 use Rattle.gcs_multipart.specs.Grammar.{IsBody, Part}
-use Rattle.gcs_names.specs.Name.{IsObjectName}
 use Rattle.gcs_json.specs.declared.object.ObjectBody.{ObjectBody}
-use Rattle.gcs_json.specs.Object.{object_of}
 use Rattle.gcs_route.specs.declared.call.Call.{Call}
-use Rattle.gcs_route.specs.Kinds.{row_of}
-use Rattle.gcs_route.specs.OfCall.{request_kind}
 use Rattle.gcs_request.specs.Heads.{text_of_field}
-use Rattle.gcs_request.specs.JsonBodies.{fault_in}
+use Rattle.gcs_request.specs.UploadJson.{IsJsonFault, IsSaidOf}
 
 -- the content of the first part, up to the next delimiter or to the end of the body, has more bytes than JSON may have
 abbrev pub IsLong : ℕ → List ℕ → List ℕ → Type 0
@@ -42,28 +38,6 @@ pub record IsTwo (most : ℕ) (boundary body text : List ℕ) (kind : Option (Li
   pub kind_is : kind ≡ part_type content
   pub bytes : bytes_in hashed ≡ content.content
   pub md5 : hashed.with_md5 ≡ true
-
--- an upload has a name: that of the query, which was tested with it, else the JSON's
-abbrev pub IsNamed : Option (List ℕ) → Option (List ℕ) → Type 0
-IsNamed (Some query) json = Unit {0}
-IsNamed None (Some name) = IsObjectName name
-IsNamed None None = ⊥
-
--- it has none, or none that an object may have
-abbrev pub IsNameFault : Option (List ℕ) → Option (List ℕ) → Reason → Type 0
-IsNameFault (Some query) json reason = ⊥
-IsNameFault None (Some name) reason = ¬ IsObjectName name × (reason ≡ Invalid Name)
-IsNameFault None None reason = reason ≡ Required Name
-
--- the JSON of an upload says this, and the upload has a name
-abbrev pub IsSaidOf : Call → List ℕ → ObjectBody → Type 0
-IsSaidOf call text read = (object_of (row_of (request_kind call)) text ≡ Ok read) × IsNamed call.name read.name
-
--- the JSON of an upload is refused: for what it says, and then for the name
-abbrev pub IsJsonFault : Call → List ℕ → Reason → Type 0
-IsJsonFault call text reason =
-    (fault_in (object_of (row_of (request_kind call)) text) ≡ Some reason)
-    ⊎ ((read : ObjectBody) × (object_of (row_of (request_kind call)) text ≡ Ok read) × IsNameFault call.name read.name reason)
 
 -- a body whose first part isn't too long is refused: it is encoded, or has other parts, or its JSON is refused
 abbrev pub IsShortFault : Call → List ℕ → Bool → List ℕ → Reason → Type 0

@@ -21,14 +21,14 @@ range_by [] last = option_map (λ n. Last n) (number_of last)
 range_by (b ∷ first) [] = option_map (λ n. From n) (number_of (b ∷ first))
 range_by (b ∷ first) (c ∷ last) = range_between (number_of (b ∷ first)) (number_of (c ∷ last))
 
--- the texts before and after the first `-`
-abbrev pub around_dash : List ℕ → Option (List ℕ × List ℕ)
-around_dash text = option_map (λ at. (take at text, drop (at + 1) text)) (position (λ b. b == 45) text)
+-- the texts before and after the first byte that is this mark
+abbrev pub around : ℕ → List ℕ → Option (List ℕ × List ℕ)
+around mark text = option_map (λ at. (take at text, drop (at + 1) text)) (position (λ b. b == mark) text)
 
 -- the one range of bytes that the value of a `Range` field tells; any other value tells none
 unfoldable pub read_range : List ℕ → Option Range
 read_range value =
-    if starts_with nat_eq value (codes "bytes=") then option_and_then (λ texts. range_by texts.0 texts.1) (around_dash (drop 6 value))
+    if starts_with nat_eq value (codes "bytes=") then option_and_then (λ texts. range_by texts.0 texts.1) (around 45 (drop 6 value))
     else None
 
 -- the text is 1 to 18 decimal digits, which write this number

@@ -1,4 +1,5 @@
 //! What has come of a body, once it is whole.
+use gcs_chunks::Content;
 use gcs_meaning::{Hashed, Text};
 
 /// What has come of a body, once it is whole.
@@ -8,6 +9,8 @@ pub enum Come {
     PassedOver,
     /// A content, with both digests.
     Content(Hashed),
+    /// A piece of a content, without digests.
+    Piece(Content),
     /// The bytes of a text.
     Text(Vec<u8>),
     /// A text, or the first part of a body with parts, has more bytes than it may have.

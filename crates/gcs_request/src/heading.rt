@@ -2,15 +2,17 @@
 ghost use Rattle.std.specs.Prelude.{◌≡◌, IfOk, IfErr, None, Ok, Err};
 ghost use Rattle.gcs_http_in.specs.Head.{Head};
 ghost use Rattle.gcs_route.specs.OfTable.{IsOfTable};
-ghost use Rattle.gcs_request.specs.Heading.{is_multipart, part_of, part_with, parts_part, range_asked, upload_part, IsCallOf, IsHeading, IsSeekable};
+ghost use Rattle.gcs_request.specs.Heading.{part_of, part_with, parts_part, piece_part, range_asked, upload_part, IsCallOf, IsHeading, IsSeekable};
 ghost use Rattle.gcs_request.specs.HeadTests.{head_refusal};
-ghost use Rattle.gcs_request.specs.Heads.{boundary_in, is_encoded, IsReadOf};
+ghost use Rattle.gcs_request.specs.Heads.{boundary_in, is_encoded, piece_range_in, IsReadOf};
 
+use crate::begins::begin_part;
 use crate::head_tests::head_refusal;
 use crate::heads::{
     HeadFields, boundary_of_field, is_given, method_by, range_of_field, text_of_field,
 };
 use crate::json_bodies::{GivenFault, invalid};
+use crate::piece_ranges::{PieceRange, read_piece_range};
 use gcs_meaning::{Key, List, Reason, Text};
 use gcs_rewrite::Range;
 use gcs_route::{Call, RequestKind, RouteFault, UploadKind, route};
@@ -27,13 +29,34 @@ pub enum Heading {
 #[derive(Drop)]
 pub enum HeadPart {
     Nothing,
-    Read { range: Option<Range> },
+    Read {
+        range: Option<Range>,
+    },
     /// A content comes.
-    Whole { kind: Option<Text> },
+    Whole {
+        kind: Option<Text>,
+    },
     /// A JSON text comes, which must not be encoded.
-    Json { encoded: bool },
+    Json {
+        encoded: bool,
+    },
     /// Two parts come, JSON and then a content, which must not be encoded.
-    Parts { boundary: List<u8>, encoded: bool },
+    Parts {
+        boundary: List<u8>,
+        encoded: bool,
+    },
+    /// A resumable upload begins, and a JSON text comes, which must not be encoded. `kind` and `total`: the content type
+    /// and the length in bytes of the whole content. `host`: that to which the message is sent.
+    Begin {
+        kind: Option<Text>,
+        total: Option<u64>,
+        host: Option<Text>,
+        encoded: bool,
+    },
+    /// A piece of a resumable upload comes.
+    Piece {
+        range: PieceRange,
+    },
 }
 
 /// What a head asks for. `Err`: no memory.
@@ -106,6 +129,7 @@ fn part_of(alloc: Global, call: &Call, fields: &HeadFields<'_>) -> Result<HeadPa
             range: range_asked(call, fields),
         }),
         Upload => upload_part(alloc, call.upload, fields),
+        UploadPiece => piece_part(fields),
         BucketInsert
         | BucketPatch
         | BucketUpdate
@@ -120,7 +144,7 @@ fn part_of(alloc: Global, call: &Call, fields: &HeadFields<'_>) -> Result<HeadPa
     }
 }
 
-// What the head of an upload gives: two parts, or a content alone.
+// What the head of an upload gives: two parts, the begin of an upload in pieces, or a content alone.
 fn upload_part(
     alloc: Global,
     upload: Option<UploadKind>,
@@ -131,20 +155,27 @@ fn upload_part(
         → (head : Head) → IsReadOf head fields.now → upload_part upload head ≡ Err reason) }
     ensures seekable { IfOk result (λ part. IsSeekable part) }
 {
-    if is_multipart(upload) {
-        return parts_part(alloc, fields);
-    }
-    match text_of_field(alloc, fields.content_type) {
-        Ok(kind) => Ok(HeadPart::Whole { kind }),
-        Err(_) => Err(GivenFault::NoMemory),
+    match upload {
+        Some(UploadKind::Multipart) => parts_part(alloc, fields),
+        Some(UploadKind::Resumable) => begin_part(alloc, fields),
+        Some(UploadKind::Media) | None => match text_of_field(alloc, fields.content_type) {
+            Ok(kind) => Ok(HeadPart::Whole { kind }),
+            Err(_) => Err(GivenFault::NoMemory),
+        },
     }
 }
 
-// Whether an upload brings two parts.
-fn is_multipart(upload: Option<UploadKind>) -> bool
-    ensures { result ≡ is_multipart upload }
+// What the head of a piece gives: where it lies, which the head has to tell.
+fn piece_part(fields: &HeadFields<'_>) -> Result<HeadPart, GivenFault>
+    ensures part { IfOk result (λ part. (head : Head) → IsReadOf head fields.now → piece_part (piece_range_in head) ≡ Ok part) }
+    ensures refused { IfErr result (λ fault. (reason : Reason) → fault ≡ GivenFault.Refused reason
+        → (head : Head) → IsReadOf head fields.now → piece_part (piece_range_in head) ≡ Err reason) }
+    ensures seekable { IfOk result (λ part. IsSeekable part) }
 {
-    matches!(upload, Some(UploadKind::Multipart))
+    match read_piece_range(fields.content_range) {
+        Some(range) => Ok(HeadPart::Piece { range }),
+        None => Err(invalid(Key::ContentRange)),
+    }
 }
 
 // What the head of two parts gives: their boundary, which its content type has to name.

@@ -6,7 +6,7 @@ ghost use Rattle.gcs_http_in.specs.Message.{Message};
 ghost use Rattle.gcs_http_in.specs.Progress.{Current};
 ghost use Rattle.gcs_http_in.specs.Stands.{IsInMessage, Stands};
 ghost use Rattle.gcs_multipart.specs.Delimiter.{IsBoundary};
-ghost use Rattle.gcs_request.specs.Heads.{boundary_of_field, is_field_text, IsReadOf, method_by, range_of_field, text_of_field};
+ghost use Rattle.gcs_request.specs.Heads.{boundary_of_field, host_of_field, is_field_text, is_host, is_host_byte, IsReadOf, method_by, range_of_field, text_of_field};
 
 use crate::ranges::read_range;
 use gcs_http_in::Framer;
@@ -29,6 +29,14 @@ pub struct HeadFields<'a> {
     pub content_encoding: Option<&'a [u8]>,
     /// `Range`
     pub range: Option<&'a [u8]>,
+    /// `Content-Range`
+    pub content_range: Option<&'a [u8]>,
+    /// `X-Upload-Content-Type`
+    pub upload_type: Option<&'a [u8]>,
+    /// `X-Upload-Content-Length`
+    pub upload_length: Option<&'a [u8]>,
+    /// `Host`
+    pub host: Option<&'a [u8]>,
 }
 
 impl<'a> HeadFields<'a> {
@@ -44,6 +52,10 @@ impl<'a> HeadFields<'a> {
             content_type: framer.field(b"content-type"),
             content_encoding: framer.field(b"content-encoding"),
             range: framer.field(b"range"),
+            content_range: framer.field(b"content-range"),
+            upload_type: framer.field(b"x-upload-content-type"),
+            upload_length: framer.field(b"x-upload-content-length"),
+            host: framer.field(b"host"),
         }
     }
 }
@@ -125,4 +137,39 @@ fn are_field_bytes(bytes: &[u8]) -> bool
     ensures { result ≡ list_all (λ byte. nat_le 32 byte && not (byte == 127)) bytes.now }
 {
     bytes.iter().all(|byte| *byte >= 32 && *byte != 127)
+}
+
+/// The host that a field gives (RFC 9110, 7.2), with a port or without. A value that is empty, or has other bytes than
+/// letters, digits and `.-:[]`, counts as absent.
+pub fn host_of_field(alloc: Global, value: Option<&[u8]>) -> Result<Option<Text>, AllocError>
+    ensures { IfOk result (λ made. made ≡ host_of_field (option_copied value.entry)) }
+{
+    let Some(value) = value else {
+        return Ok(None);
+    };
+    let Ok(text) = str::from_utf8(value) else {
+        return Ok(None);
+    };
+    if !is_host(text.as_bytes()) {
+        return Ok(None);
+    }
+    Ok(Some(Text::from_str(alloc, text)?))
+}
+
+fn is_host(value: &[u8]) -> bool
+    ensures { result ≡ is_host value.now }
+{
+    !value.is_empty() && are_host_bytes(value)
+}
+
+fn are_host_bytes(value: &[u8]) -> bool
+    ensures { result ≡ list_all is_host_byte value.now }
+{
+    value.iter().all(|byte| is_host_byte(*byte))
+}
+
+fn is_host_byte(byte: u8) -> bool
+    ensures { result ≡ is_host_byte byte }
+{
+    byte.is_ascii_alphanumeric() || matches!(byte, b'.' | b'-' | b':' | b'[' | b']')
 }

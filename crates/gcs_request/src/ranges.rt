@@ -1,6 +1,6 @@
 //! Ranges of bytes: what a `Range` field tells.
 ghost use Rattle.std.specs.Prelude.{◌≡◌, ◌==◌, ◌<◌, IfSome, MatchOption, None, Some, length, position};
-ghost use Rattle.gcs_request.specs.Ranges.{AreRangeTexts, around_dash, number_of, range_between, range_by, read_range};
+ghost use Rattle.gcs_request.specs.Ranges.{AreRangeTexts, around, number_of, range_between, range_by, read_range};
 
 use gcs_decimal::read_decimal;
 use gcs_rewrite::Range;
@@ -12,7 +12,7 @@ pub fn read_range(value: &[u8]) -> Option<Range>
     ensures { result ≡ read_range value.now }
 {
     let text = value.strip_prefix(b"bytes=")?;
-    let (first, last) = around_dash(text)?;
+    let (first, last) = around(b'-', text)?;
     range_by(first, last)
 }
 
@@ -21,18 +21,19 @@ pub fn law_ranges()
     ensures { AreRangeTexts }
 {}
 
-fn around_dash(text: &[u8]) -> Option<(&[u8], &[u8])>
-    ensures { MatchOption result (around_dash text.now ≡ None) (λ texts. around_dash text.now ≡ Some (texts.0.now, texts.1.now)) }
+/// The texts before and after the first byte that is this mark.
+pub fn around(mark: u8, text: &[u8]) -> Option<(&[u8], &[u8])>
+    ensures { MatchOption result (around mark text.now ≡ None) (λ texts. around mark text.now ≡ Some (texts.0.now, texts.1.now)) }
 {
-    let at = dash_at(text)?;
+    let at = place_of(mark, text)?;
     Some((&text[..at], &text[at + 1..]))
 }
 
-fn dash_at(text: &[u8]) -> Option<usize>
-    ensures value { result ≡ position (λ byte. byte == 45) text.now }
+fn place_of(mark: u8, text: &[u8]) -> Option<usize>
+    ensures value { result ≡ position (λ byte. byte == mark) text.now }
     ensures within { IfSome result (λ at. at < length text.now) }
 {
-    text.iter().position(|byte| *byte == b'-')
+    text.iter().position(|byte| *byte == mark)
 }
 
 fn range_by(first: &[u8], last: &[u8]) -> Option<Range>
@@ -55,8 +56,8 @@ fn range_between(first: u64, last: u64) -> Option<Range>
     }
 }
 
-// The number that these digits write, of which there are at most 18.
-fn number_of(text: &[u8]) -> Option<u64>
+/// The number that these digits write, of which there are at most 18.
+pub fn number_of(text: &[u8]) -> Option<u64>
     ensures { result ≡ number_of text.now }
 {
     read_decimal(text, 18)

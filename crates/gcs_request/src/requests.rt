@@ -1,18 +1,25 @@
 //! What a message asks for, once its body has come.
 ghost use Rattle.std.specs.Prelude.{◌≡◌, ℕ, List, IfOk, IfErr};
+ghost use Rattle.gcs_chunks.specs.Content.{bytes_of};
 ghost use Rattle.gcs_http_in.specs.declared.limits.Limits.{Limits};
 ghost use Rattle.gcs_http_in.specs.Head.{Head};
-ghost use Rattle.gcs_request.specs.Bodies.{IsCome};
+ghost use Rattle.gcs_request.specs.Bodies.{IsCome, IsTextCome};
 ghost use Rattle.gcs_request.specs.Heading.{part_with, IsHeading};
+ghost use Rattle.gcs_request.specs.Begins.{IsBeginFault, IsBegun};
 ghost use Rattle.gcs_request.specs.Parts.{IsPartsFault};
+ghost use Rattle.gcs_request.specs.UploadJson.{IsNamed};
 ghost use Rattle.gcs_request.specs.Requests.{IsAsked, IsAskedFit, IsBodyFault, IsGiven};
-ghost use Rattle.gcs_rewrite.specs.Fits.{Fits};
+ghost use Rattle.gcs_route.specs.declared.kind.RequestKind.TheVariants.{UploadPiece};
+ghost use Rattle.gcs_rewrite.specs.Fits.{Fits, IsGivenInLimits, IsGivenOn};
 
 use crate::bodies::Come;
 use crate::heading::{HeadPart, Heading};
 use crate::json_bodies::{GivenFault, invalid, read_given, says_nothing};
-use crate::parts::read_upload;
-use gcs_meaning::{Key, Reason};
+use crate::piece_ranges::{PieceRange, piece_of};
+use crate::upload_json::read_upload;
+use gcs_chunks::Content;
+use gcs_json::ObjectBody;
+use gcs_meaning::{Key, Reason, Text};
 use gcs_rewrite::{Given, Request};
 use gcs_route::Call;
 use std::alloc::{AllocError, Global};
@@ -90,6 +97,16 @@ fn given_of(alloc: Global, call: &Call, part: HeadPart, body: Come) -> Result<Gi
             drop(boundary);
             given_of_parts(alloc, call, encoded, body)
         }
+        HeadPart::Begin {
+            kind,
+            total,
+            host,
+            encoded,
+        } => given_of_begin(alloc, call, kind, total, host, encoded, body),
+        HeadPart::Piece { range } => match body {
+            Come::Piece(content) => given_of_piece(range, content),
+            _ => unreachable!(),
+        },
     }
 }
 
@@ -125,6 +142,85 @@ fn given_of_parts(
                 Err(fault)
             }
         },
-        Come::PassedOver | Come::Content(_) | Come::Text(_) => unreachable!(),
+        Come::PassedOver | Come::Content(_) | Come::Piece(_) | Come::Text(_) => unreachable!(),
+    }
+}
+
+// What the begin of a resumable upload gives.
+fn given_of_begin(
+    alloc: Global,
+    call: &Call,
+    kind: Option<Text>,
+    total: Option<u64>,
+    host: Option<Text>,
+    encoded: bool,
+    body: Come,
+) -> Result<Given, GivenFault>
+    requires { (most : ℕ) × (bytes : List ℕ) × IsTextCome most bytes body }
+    ensures given { IfOk result (λ given. (most : ℕ) (bytes : List ℕ) → IsTextCome most bytes body
+        → IsGiven most call.now (HeadPart.Begin kind total host encoded) bytes given) }
+    ensures refused { IfErr result (λ fault. (reason : Reason) → fault ≡ GivenFault.Refused reason
+        → (most : ℕ) (bytes : List ℕ) → IsTextCome most bytes body → IsBeginFault most call.now encoded bytes reason) }
+    ensures fits { IfOk result (λ given. (head : Head) → IsHeading head (Heading.Asks call.now (HeadPart.Begin kind total host encoded))
+        → Fits (record { call = call.now; given = given })) }
+{
+    match read_begin(alloc, call, encoded, body) {
+        Ok(body) => Ok(Given::Begin {
+            body,
+            kind,
+            total,
+            host,
+        }),
+        Err(fault) => {
+            drop((kind, host));
+            Err(fault)
+        }
+    }
+}
+
+// What the body of the begin of a resumable upload says: it is tested for its length, whether it is encoded, and then for
+// what it says.
+fn read_begin(
+    alloc: Global,
+    call: &Call,
+    encoded: bool,
+    body: Come,
+) -> Result<ObjectBody, GivenFault>
+    requires { (most : ℕ) × (bytes : List ℕ) × IsTextCome most bytes body }
+    ensures begun { IfOk result (λ read. (most : ℕ) (bytes : List ℕ) → IsTextCome most bytes body → IsBegun most call.now encoded bytes read) }
+    ensures named { IfOk result (λ read. IsNamed call.now.name read.name) }
+    ensures refused { IfErr result (λ fault. (reason : Reason) → fault ≡ GivenFault.Refused reason
+        → (most : ℕ) (bytes : List ℕ) → IsTextCome most bytes body → IsBeginFault most call.now encoded bytes reason) }
+{
+    match body {
+        Come::TooLong => Err(GivenFault::Refused(Reason::TooLong)),
+        Come::Text(text) if encoded => {
+            drop(text);
+            Err(invalid(Key::HeadContentEncoding))
+        }
+        Come::Text(text) => read_upload(alloc, call, &text),
+        _ => unreachable!(),
+    }
+}
+
+// What a piece of a resumable upload gives, if it has the size that its head tells.
+fn given_of_piece(range: PieceRange, content: Content) -> Result<Given, GivenFault>
+    ensures given { IfOk result (λ given. (most : ℕ) (call : Call) (bytes : List ℕ) → bytes_of content ≡ bytes
+        → IsGiven most call (HeadPart.Piece range) bytes given) }
+    ensures refused { IfErr result (λ fault. (reason : Reason) → fault ≡ GivenFault.Refused reason
+        → (most : ℕ) (call : Call) (bytes : List ℕ) → bytes_of content ≡ bytes → IsBodyFault most call (HeadPart.Piece range) bytes reason) }
+    ensures fits { IfOk result (λ given. (call : Call) → IsGivenOn UploadPiece call given) }
+    ensures limits { IfOk result (λ given. IsGivenInLimits given) }
+{
+    match piece_of(range, content.len()) {
+        Some((offset, total)) => Ok(Given::Piece {
+            offset,
+            total,
+            content,
+        }),
+        None => {
+            drop(content);
+            Err(invalid(Key::ContentRange))
+        }
     }
 }

@@ -3,6 +3,7 @@ use Rattle.std.proofs.Common.{◌≡◌, ℕ, Bool, true, false, List, [], ◌�
 use Rattle.std.specs.Prelude.{nat_lt, sum, if◌then◌else◌}
 use Rattle.std.proofs.lemmas.Bool.{ltb-true}
 use Rattle.std.proofs.Math.Nat.{mod-lt}
+use Rattle.gcs_chunks.specs.Content.{Whole}
 use Rattle.gcs_meaning.specs.declared.command.Answer.{Answer}
 use Rattle.gcs_meaning.specs.declared.command.Answer.TheVariants as answer
 use Rattle.gcs_meaning.specs.declared.command.Command.{Command}
@@ -15,17 +16,18 @@ use Rattle.gcs_json.specs.declared.bucket.BucketBody.{BucketBody}
 use Rattle.gcs_json.specs.declared.object.ObjectBody.{ObjectBody}
 use Rattle.gcs_route.specs.declared.call.Call.{Call}
 use Rattle.gcs_route.specs.declared.kind.RequestKind.{RequestKind}
-use Rattle.gcs_route.specs.declared.kind.RequestKind.TheVariants.{BucketInsert, BucketList, BucketGet, ObjectRewrite, ObjectCopy}
+use Rattle.gcs_route.specs.declared.kind.RequestKind.TheVariants.{BucketInsert, BucketList, BucketGet, ObjectRewrite, ObjectCopy, UploadPiece}
 use Rattle.gcs_route.specs.OfCall.{first_bucket, last_bucket, request_kind}
 use Rattle.gcs_rewrite.specs.declared.moves.Move.{Move}
 use Rattle.gcs_rewrite.specs.declared.moves.Move.TheVariants.{Ask, Say}
 use Rattle.gcs_rewrite.specs.declared.request.Given.{Given}
 use Rattle.gcs_rewrite.specs.declared.request.Given.TheVariants as given
 use Rattle.gcs_rewrite.specs.declared.request.Request.{Request}
-use Rattle.gcs_rewrite.specs.Commands.{ask_in, bare_move, bucket_move, bucket_named, first_move}
+use Rattle.gcs_rewrite.specs.Commands.{ask_in, bare_move, bucket_move, bucket_named, finish_move, first_move}
 use Rattle.gcs_rewrite.specs.Fits.{Fits, IsGivenInLimits}
 use Rattle.gcs_rewrite.specs.Lists.{buckets_reply, list_of_shard, listed_in}
 use Rattle.gcs_rewrite.specs.Copies.{after_source, destination_move, done_after, copy_script, size_of, source_move, unfinished}
+use Rattle.gcs_rewrite.specs.Resumable.{resume_script}
 use Rattle.gcs_rewrite.specs.Scripts.{script, script_on, single_script, MayBeAsked, MayFollow}
 use Rattle.gcs_rewrite.proofs.Inserted.{inserted_in_limits}
 
@@ -50,6 +52,8 @@ first_may : (call : Call) (given : Given) → IsGivenInLimits given → MoveMayB
 first_may call given.Nothing set = bare_may (request_kind call) call
 first_may call (given.Read range) set = in_bucket (first_bucket call) _ (refl, tt) tt
 first_may call (given.Whole body kind hashed) set = in_bucket (first_bucket call) _ (refl, tt) tt
+first_may call (given.Begin body kind total host) set = in_bucket (first_bucket call) _ (refl, tt) tt
+first_may call (given.Piece offset total content) set = in_bucket (first_bucket call) _ (refl, tt) tt
 first_may call (given.Bucket body) set = bucket_may (request_kind call) call body set
 first_may call (given.Object body) set = in_bucket (first_bucket call) _ (refl, tt) tt
 first_may call (given.Compose body) set = in_bucket (first_bucket call) _ (refl, tt) set
@@ -62,6 +66,16 @@ single_may call given [] set = at_first (first_move call given) (first_may call 
     at_first (Ask shard command) may = (may, omega arith)
     at_first (Say reply) may = tt
 single_may call given (a ∷ ans) set = tt
+
+-- a piece of a resumable upload asks twice at most
+finish_may : (call : Call) (content : Whole) → MayFollow 1 (finish_move call content)
+finish_may call content = (record { within = mod-lt (sum (first_bucket call)) (omega arith); belongs = (refl, tt); in_range = tt }, omega arith)
+
+resume_may : (call : Call) (given : Given) (ans : List Answer) → IsGivenInLimits given → MayFollow (length ans) (resume_script call given ans)
+resume_may call given [] set = single_may call given [] set
+resume_may call given (answer.Complete content ∷ []) set = finish_may call content
+resume_may call given (_ ∷ []) set = tt
+resume_may call given (first ∷ second ∷ ans) set = tt
 
 -- a list of buckets asks while fewer than sixteen answers have come
 buckets_may : (call : Call) (ans : List Answer) (b : Bool) → nat_lt (length ans) 16 ≡ b
@@ -94,6 +108,7 @@ move_may : (kind : RequestKind) (call : Call) (given : Given) (ans : List Answer
 move_may BucketList call given ans set = buckets_may call ans (nat_lt (length ans) 16) refl
 move_may ObjectRewrite call (given.Object body) ans set = copy_may call body ans
 move_may ObjectCopy call (given.Object body) ans set = copy_may call body ans
+move_may UploadPiece call given ans set = resume_may call given ans set
 move_may _ call given ans set = single_may call given ans set
 
 -- each move of a script may follow the answers before it

@@ -3,11 +3,12 @@ use Rattle.std.specs.Prelude.{ℕ, ◌&&◌, Bool, true, false, length, Option, 
 use Rattle.gcs_meaning.specs.declared.reason.Key.{Key}
 use Rattle.gcs_meaning.specs.declared.reason.Key.TheVariants.{IfGenerationNotMatch, IfMetagenerationNotMatch}
 use Rattle.gcs_meaning.specs.declared.reason.Reason.{Reason}
-use Rattle.gcs_meaning.specs.declared.reason.Reason.TheVariants.{Condition, NotBuilt, Unsatisfiable}
+use Rattle.gcs_meaning.specs.declared.reason.Reason.TheVariants.{Condition, Unsatisfiable}
 use Rattle.gcs_meaning.specs.declared.settings.Settings.{Settings}
 use Rattle.gcs_meaning.specs.declared.version.Row.{Row}
 use Rattle.gcs_meaning.specs.declared.command.Answer.{Answer}
 use Rattle.gcs_meaning.specs.declared.command.Answer.TheVariants as answer
+use Rattle.gcs_chunks.specs.Content.{bytes_of}
 use Rattle.gcs_meaning.specs.Content.{bytes_in}
 use Rattle.gcs_route.specs.declared.call.Call.{Call}
 use Rattle.gcs_route.specs.declared.kind.RequestKind.{RequestKind}
@@ -36,8 +37,8 @@ range_given (given.Read range) = range
 range_given _ = None
 
 -- a version that is answered: its bytes where they are asked for, else its resource
-abbrev pub object_reply : Call → Given → Row → Settings → Reply
-object_reply call given row settings = if call.media then range_reply (range_given given) row else reply.Object row settings
+abbrev pub object_reply : Call → Option Range → Row → Settings → Reply
+object_reply call range row settings = if call.media then range_reply range row else reply.Object row settings
 
 -- the request reads a bucket or a version
 abbrev pub is_read : RequestKind → Bool
@@ -61,11 +62,15 @@ is_unchanged kind _ = false
 abbrev pub refused_reply : RequestKind → Reason → Reply
 refused_reply kind reason = if is_unchanged kind reason then reply.NotModified else reply.Refused reason
 
--- what a call says of the answer to its command. Such a command gets no answer of another kind
-abbrev pub reply_of : Call → Given → Answer → Reply
-reply_of call given (answer.Object row settings) = object_reply call given row settings
-reply_of call given (answer.Bucket row) = reply.Bucket row
-reply_of call given answer.Empty = reply.NoContent
-reply_of call given (answer.Page page) = reply.Page page
-reply_of call given (answer.Refused reason) = refused_reply (request_kind call) reason
-reply_of call given _ = reply.Refused NotBuilt
+-- what a call with that range says of an answer. Of a resumable upload that is complete all bytes are kept
+abbrev pub reply_of : Call → Option Range → Answer → Reply
+reply_of call range (answer.Object row settings) = object_reply call range row settings
+reply_of call range (answer.Bucket row) = reply.Bucket row
+reply_of call range (answer.Buckets rows) = reply.Buckets rows None
+reply_of call range answer.Empty = reply.NoContent
+reply_of call range (answer.Page page) = reply.Page page
+reply_of call range (answer.Started number) = reply.Started number
+reply_of call range (answer.Kept count) = reply.Kept count
+reply_of call range (answer.Complete content) = reply.Kept (length (bytes_of content))
+reply_of call range answer.Cancelled = reply.Cancelled
+reply_of call range (answer.Refused reason) = refused_reply (request_kind call) reason

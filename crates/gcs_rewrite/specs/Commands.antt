@@ -1,6 +1,7 @@
 -- What a call asks the store: its one command.
 use Rattle.std.specs.Prelude.{unwrap_or, Bool, true, false, ℕ, List, [], Option, None}
 use Rattle.std.specs.Option.{option_or}
+use Rattle.gcs_chunks.specs.Content.{Whole}
 use Rattle.gcs_meaning.specs.declared.command.Command.{Command}
 use Rattle.gcs_meaning.specs.declared.command.Command.TheVariants as command
 use Rattle.gcs_meaning.specs.Content.{Digested}
@@ -10,7 +11,7 @@ use Rattle.gcs_json.specs.declared.object.ObjectBody.{ObjectBody}
 use Rattle.gcs_json.specs.declared.compose.ComposeBody.{ComposeBody}
 use Rattle.gcs_route.specs.declared.call.Call.{Call}
 use Rattle.gcs_route.specs.declared.kind.RequestKind.{RequestKind}
-use Rattle.gcs_route.specs.declared.kind.RequestKind.TheVariants.{BucketInsert, BucketGet, BucketUpdate, BucketDelete, BucketLock, BucketRestore, ObjectUpdate, ObjectDelete, ObjectRestore}
+use Rattle.gcs_route.specs.declared.kind.RequestKind.TheVariants.{BucketInsert, BucketGet, BucketUpdate, BucketDelete, BucketLock, BucketRestore, ObjectUpdate, ObjectDelete, ObjectRestore, UploadCancel}
 use Rattle.gcs_route.specs.OfCall.{first_bucket, first_object, request_kind}
 use Rattle.gcs_rewrite.specs.declared.request.Given.{Given}
 use Rattle.gcs_rewrite.specs.declared.request.Given.TheVariants as given
@@ -55,10 +56,36 @@ change_move call body =
 abbrev pub upload_name : Call → ObjectBody → Option (List ℕ)
 upload_name call body = option_or call.name body.name
 
+-- the name of the object that an upload makes
+abbrev pub made_name : Call → ObjectBody → List ℕ
+made_name call body = unwrap_or (upload_name call body) []
+
 -- the upload of a whole content, with what the body says of the object
 abbrev pub put_move : Call → ObjectBody → Option (List ℕ) → Digested → Move
-put_move call body kind hashed = on_bucket call (λ bucket.
-    command.Put bucket (unwrap_or (upload_name call body) []) call.pre (made_meta body kind call.encoding) hashed None body.expect)
+put_move call body kind hashed =
+    on_bucket call (λ bucket. command.Put bucket (made_name call body) call.pre (made_meta body kind call.encoding) hashed None body.expect)
+
+-- the begin of a resumable upload, with what the body says of the object, and the length of its content where it is told
+abbrev pub start_move : Call → ObjectBody → Option (List ℕ) → Option ℕ → Move
+start_move call body kind total =
+    on_bucket call (λ bucket. command.Start bucket (made_name call body) call.pre (made_meta body kind call.encoding) body.expect total)
+
+-- the number of the upload that a call must name
+abbrev pub upload_named : Call → ℕ
+upload_named call = unwrap_or call.upload_id 0
+
+-- a piece of a resumable upload
+abbrev pub append_move : Call → Option ℕ → Option ℕ → Whole → Move
+append_move call offset total content = on_bucket call (λ bucket. command.Append bucket (upload_named call) offset total content)
+
+-- the end of a resumable upload that is complete, with the content and its digests
+abbrev pub finish_move : Call → Whole → Move
+finish_move call content =
+    on_bucket call (λ bucket. command.Finish bucket (upload_named call) (record { content = content; with_md5 = true }))
+
+-- a resumable upload is cancelled
+abbrev pub cancel_move : Call → Move
+cancel_move call = on_bucket call (λ bucket. command.Cancel bucket (upload_named call))
 
 -- the bucket that a body names
 abbrev pub bucket_named : BucketBody → List ℕ
@@ -103,7 +130,7 @@ compose_move call body =
     on_object call (λ bucket name. command.Compose bucket name call.pre (made_meta body.destination None None) body.parts)
 
 -- the command of a call that gives nothing beside it: the read of a bucket, its deletion, the lock of its policy, its restore, the
--- deletion of a version, its restore, or else a list of objects
+-- deletion of a version, its restore, the cancelling of an upload, or else a list of objects
 abbrev pub bare_move : RequestKind → Call → Move
 bare_move BucketGet call = on_bucket call (λ bucket. command.BucketGet bucket call.pre)
 bare_move BucketDelete call = on_bucket call (λ bucket. command.BucketDelete bucket call.pre)
@@ -111,13 +138,16 @@ bare_move BucketLock call = lock_move call
 bare_move BucketRestore call = bucket_restore_move call
 bare_move ObjectDelete call = delete_move call
 bare_move ObjectRestore call = restore_move call
+bare_move UploadCancel call = cancel_move call
 bare_move _ call = list_move call
 
--- the one command of a call
+-- the first command of a call that isn't a list of buckets
 abbrev pub first_move : Call → Given → Move
 first_move call given.Nothing = bare_move (request_kind call) call
 first_move call (given.Read range) = get_move call
 first_move call (given.Whole body kind hashed) = put_move call body kind hashed
+first_move call (given.Begin body kind total host) = start_move call body kind total
+first_move call (given.Piece offset total content) = append_move call offset total content
 first_move call (given.Bucket body) = bucket_move (request_kind call) call body
 first_move call (given.Object body) = change_move call body
 first_move call (given.Compose body) = compose_move call body

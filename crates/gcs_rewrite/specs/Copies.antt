@@ -7,8 +7,7 @@ use Rattle.gcs_meaning.specs.declared.command.Command.TheVariants as command
 use Rattle.gcs_meaning.specs.declared.reason.Key.{Key}
 use Rattle.gcs_meaning.specs.declared.reason.Key.TheVariants.{IfGenerationMatch, IfGenerationNotMatch, IfMetagenerationMatch, IfMetagenerationNotMatch, IfSourceGenerationMatch, IfSourceGenerationNotMatch, IfSourceMetagenerationMatch, IfSourceMetagenerationNotMatch}
 use Rattle.gcs_meaning.specs.declared.reason.Reason.{Reason}
-use Rattle.gcs_meaning.specs.declared.reason.Reason.TheVariants.{Condition, NotBuilt}
-use Rattle.gcs_meaning.specs.declared.rewriting.RewriteReply.{RewriteReply}
+use Rattle.gcs_meaning.specs.declared.reason.Reason.TheVariants.{Condition}
 use Rattle.gcs_meaning.specs.declared.rewriting.RewriteToken.{RewriteToken}
 use Rattle.gcs_meaning.specs.declared.settings.Settings.{Settings}
 use Rattle.gcs_meaning.specs.declared.version.Row.{Row}
@@ -23,6 +22,7 @@ use Rattle.gcs_rewrite.specs.declared.moves.Move.{Move}
 use Rattle.gcs_rewrite.specs.declared.moves.Move.TheVariants.{Say}
 use Rattle.gcs_rewrite.specs.declared.replies.Reply.{Reply}
 use Rattle.gcs_rewrite.specs.declared.replies.Reply.TheVariants as reply
+use Rattle.gcs_rewrite.specs.Answered.{reply_of}
 use Rattle.gcs_rewrite.specs.Commands.{ask_in, on_object}
 use Rattle.gcs_rewrite.specs.CopyMeta.{copied_meta}
 use Rattle.gcs_rewrite.specs.Tokens.{rewrite_of_token, rewrite_token}
@@ -51,11 +51,15 @@ source_key IfMetagenerationMatch = IfSourceMetagenerationMatch
 source_key IfMetagenerationNotMatch = IfSourceMetagenerationNotMatch
 source_key key = key
 
--- what is said where the source isn't read. Its read gets no answer of another kind
-abbrev pub source_reply : Answer → Reply
-source_reply (answer.Refused (Condition which wanted found)) = reply.Refused (Condition (source_key which) wanted found)
-source_reply (answer.Refused reason) = reply.Refused reason
-source_reply _ = reply.Refused NotBuilt
+-- the reason of a refusal, which names a precondition by its name for a source
+abbrev pub source_reason : Reason → Reason
+source_reason (Condition which wanted found) = Condition (source_key which) wanted found
+source_reason reason = reason
+
+-- what is said where the source isn't read
+abbrev pub source_reply : Call → Answer → Reply
+source_reply call (answer.Refused reason) = reply.Refused (source_reason reason)
+source_reply call a = reply_of call None a
 
 -- ---- how far a call goes
 
@@ -105,7 +109,7 @@ destination_move call body row =
 abbrev pub after_source : Call → ObjectBody → Answer → Move
 after_source call body (answer.Object row settings) =
     if nat_lt (done_after call row) (size_of row) then Say (unfinished call row) else destination_move call body row
-after_source call body a = Say (source_reply a)
+after_source call body a = Say (source_reply call a)
 
 -- a rewrite is done with the resource of the destination, and a copy says that alone
 abbrev pub copied_object : RequestKind → Row → Settings → Reply
@@ -113,14 +117,13 @@ copied_object ObjectRewrite row settings =
     reply.Rewritten (record { size = size_of row; rewritten = size_of row; token = None }) (Some (row, settings))
 copied_object _ row settings = reply.Object row settings
 
--- what is said of the destination. Such a command gets no answer of another kind
-abbrev pub copied_reply : RequestKind → Answer → Reply
-copied_reply kind (answer.Object row settings) = copied_object kind row settings
-copied_reply kind (answer.Refused reason) = reply.Refused reason
-copied_reply kind _ = reply.Refused NotBuilt
+-- what is said of the destination
+abbrev pub copied_reply : Call → Answer → Reply
+copied_reply call (answer.Object row settings) = copied_object (request_kind call) row settings
+copied_reply call a = reply_of call None a
 
 -- the script of a copy or a rewrite: the read of the source, and the version at the destination
 abbrev pub copy_script : Call → ObjectBody → List Answer → Move
 copy_script call body [] = source_move call
 copy_script call body (source ∷ []) = after_source call body source
-copy_script call body (source ∷ made ∷ answers) = Say (copied_reply (request_kind call) made)
+copy_script call body (source ∷ made ∷ answers) = Say (copied_reply call made)

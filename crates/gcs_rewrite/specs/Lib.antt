@@ -8,4 +8,5 @@ pub mod CopyMeta
 pub mod Commands
 pub mod Answered
 pub mod Copies
+pub mod Resumable
 pub mod Scripts

@@ -1,30 +1,41 @@
 //! What a call asks the store: its one command.
 ghost use Rattle.std.specs.Prelude.{◌≡◌, IfOk, IsSome};
-ghost use Rattle.std.specs.Option.{option_copied};
 ghost use Rattle.gcs_route.specs.OfCall.{request_kind, NamesBucket, NamesObject};
 ghost use Rattle.gcs_rewrite.specs.Commands.{bare_move, bucket_change_move, bucket_move, change_move, compose_move, delete_move, first_move, get_move, insert_move, list_move, put_move, sets_all, upload_name};
-ghost use Rattle.gcs_rewrite.specs.Fits.{HasOneStep};
+ghost use Rattle.gcs_rewrite.specs.Fits.{HasFirstStep};
 
 use crate::inserts::inserted_settings;
 use crate::lists::query_of;
-use crate::made::made_meta;
+use crate::made::{made_meta, made_name};
 use crate::moves::{Move, ask};
 use crate::request::Given;
 use crate::restores::{ask_bucket_restore, ask_lock, ask_restore};
+use crate::resumable::{ask_append, ask_cancel, ask_start};
 use gcs_json::{BucketBody, ComposeBody, ObjectBody};
-use gcs_meaning::{Command, Copied, Hashed, Name, Text};
+use gcs_meaning::{Command, Copied, Hashed, Text};
 use gcs_route::{Call, RequestKind};
 use std::alloc::{AllocError, Global};
 
-/// The command of a request with one step. `Err`: no memory.
+/// The first command of a request that isn't a list of buckets. `Err`: no memory.
 pub fn first_move(alloc: Global, call: &Call, given: &Given) -> Result<Move, AllocError>
-    requires { HasOneStep call.now given.now }
+    requires { HasFirstStep call.now given.now }
     ensures { IfOk result (λ next. next ≡ first_move call.now given.now) }
 {
     match given {
         Given::Nothing => ask_bare(alloc, call),
         Given::Read { .. } => ask_get(call),
         Given::Whole { body, kind, hashed } => ask_put(alloc, call, body, kind, hashed),
+        Given::Begin {
+            body,
+            kind,
+            total,
+            ..
+        } => ask_start(alloc, call, body, kind, *total),
+        Given::Piece {
+            offset,
+            total,
+            content,
+        } => ask_append(call, *offset, *total, content),
         Given::Bucket(body) => ask_bucket(alloc, call, body),
         Given::Object(body) => ask_change(call, body),
         Given::Compose(body) => ask_compose(alloc, call, body),
@@ -33,7 +44,7 @@ pub fn first_move(alloc: Global, call: &Call, given: &Given) -> Result<Move, All
 
 // The command of a call that gives nothing beside it.
 fn ask_bare(alloc: Global, call: &Call) -> Result<Move, AllocError>
-    requires { HasOneStep call.now Given.Nothing }
+    requires { HasFirstStep call.now Given.Nothing }
     ensures { IfOk result (λ next. next ≡ bare_move (request_kind call.now) call.now) }
 {
     let name = call.bucket();
@@ -52,6 +63,7 @@ fn ask_bare(alloc: Global, call: &Call) -> Result<Move, AllocError>
         RequestKind::ObjectList => ask_list(alloc, call),
         RequestKind::ObjectDelete => ask_delete(call),
         RequestKind::ObjectRestore => ask_restore(call),
+        RequestKind::UploadCancel => ask_cancel(call),
         _ => unreachable!(),
     }
 }
@@ -117,7 +129,7 @@ fn sets_all(kind: RequestKind) -> bool
 
 // The insert of a bucket, or its change.
 fn ask_bucket(alloc: Global, call: &Call, body: &BucketBody) -> Result<Move, AllocError>
-    requires { HasOneStep call.now (Given.Bucket body.now) }
+    requires { HasFirstStep call.now (Given.Bucket body.now) }
     ensures { IfOk result (λ next. next ≡ bucket_move (request_kind call.now) call.now body.now) }
 {
     match call.kind() {
@@ -187,12 +199,9 @@ fn ask_put(
     requires name { IsSome (upload_name call.now body.now) }
     ensures { IfOk result (λ next. next ≡ put_move call.now body.now kind.now hashed.now) }
 {
-    let Some(name) = upload_name(call, body) else {
-        unreachable!()
-    };
     let place = call.bucket();
     let bucket = place.copy()?;
-    let name = Name::new(name.copy()?);
+    let name = made_name(call, body)?;
     let meta = made_meta(alloc, body, kind, &call.encoding)?;
     let hashed = hashed.copy()?;
     Ok(ask(
@@ -207,15 +216,6 @@ fn ask_put(
             expect: body.expect,
         },
     ))
-}
-
-fn upload_name<'a>(call: &'a Call, body: &'a ObjectBody) -> Option<&'a Text>
-    ensures { option_copied result ≡ upload_name call.now body.now }
-{
-    match (&call.name, &body.name) {
-        (Some(name), _) | (None, Some(name)) => Some(name),
-        (None, None) => None,
-    }
 }
 
 // The version of the sources' bytes, with what the body says of it.

@@ -2,11 +2,11 @@
 ghost use Rattle.std.specs.Prelude.{◌≡◌, IfOk, None};
 ghost use Rattle.gcs_meaning.specs.Content.{bytes_in};
 ghost use Rattle.gcs_route.specs.OfCall.{NamesObject};
-ghost use Rattle.gcs_rewrite.specs.Copies.{after_source, copied_object, copied_reply, copy_script, destination_move, done_after, done_before, done_with, size_of, source_generation, source_key, source_move, source_reply, token_given, unfinished};
+ghost use Rattle.gcs_rewrite.specs.Copies.{after_source, copied_object, copied_reply, copy_script, destination_move, done_after, done_before, done_with, size_of, source_generation, source_key, source_move, source_reason, source_reply, token_given, unfinished};
 
 use crate::copy_meta::copied_meta;
 use crate::moves::{Move, ask};
-use crate::replies::Reply;
+use crate::replies::{Reply, say};
 use crate::tokens::{RewriteFault, read_rewrite, write_rewrite};
 use gcs_json::ObjectBody;
 use gcs_meaning::{
@@ -30,7 +30,7 @@ pub fn next_copy(
     match answers {
         [] => ask_source(alloc, call),
         [source] => after_source(alloc, call, body, source),
-        [_, made, ..] => Ok(Move::Say(say_copied(call.kind(), made)?)),
+        [_, made, ..] => Ok(Move::Say(say_copied(call, made)?)),
     }
 }
 
@@ -90,7 +90,7 @@ fn after_source(
     ensures { IfOk result (λ next. next ≡ after_source call.now body.now source.now) }
 {
     let Answer::Object(row, _) = source else {
-        return Ok(Move::Say(say_source(source)));
+        return Ok(Move::Say(say_source(call, source)?));
     };
     let done = done_after(alloc, call, row)?;
     if done < size_of(row) {
@@ -101,23 +101,30 @@ fn after_source(
 }
 
 // What is said where the source isn't read.
-fn say_source(answer: &Answer) -> Reply
-    ensures { result ≡ source_reply answer.now }
+fn say_source(call: &Call, answer: &Answer) -> Result<Reply, AllocError>
+    ensures { IfOk result (λ reply. reply ≡ source_reply call.now answer.now) }
 {
     match answer {
-        Answer::Refused(
-            Reason::Condition {
-                which,
-                wanted,
-                found,
-            },
-        ) => Reply::Refused(Reason::Condition {
-            which: source_key(*which),
-            wanted: *wanted,
-            found: *found,
-        }),
-        Answer::Refused(reason) => Reply::Refused(*reason),
-        _ => Reply::Refused(Reason::NotBuilt),
+        Answer::Refused(reason) => Ok(Reply::Refused(source_reason(*reason))),
+        _ => say(call, None, answer),
+    }
+}
+
+// The reason of a refusal, which names a precondition by its name for a source.
+fn source_reason(reason: Reason) -> Reason
+    ensures { result ≡ source_reason reason }
+{
+    match reason {
+        Reason::Condition {
+            which,
+            wanted,
+            found,
+        } => Reason::Condition {
+            which: source_key(which),
+            wanted,
+            found,
+        },
+        other => other,
     }
 }
 
@@ -225,13 +232,12 @@ fn ask_destination(
 }
 
 // What is said of the destination.
-fn say_copied(kind: RequestKind, made: &Answer) -> Result<Reply, AllocError>
-    ensures { IfOk result (λ reply. reply ≡ copied_reply kind made.now) }
+fn say_copied(call: &Call, made: &Answer) -> Result<Reply, AllocError>
+    ensures { IfOk result (λ reply. reply ≡ copied_reply call.now made.now) }
 {
     match made {
-        Answer::Object(row, settings) => say_object(kind, row, settings),
-        Answer::Refused(reason) => Ok(Reply::Refused(*reason)),
-        _ => Ok(Reply::Refused(Reason::NotBuilt)),
+        Answer::Object(row, settings) => say_object(call.kind(), row, settings),
+        _ => say(call, None, made),
     }
 }
 

@@ -12,6 +12,7 @@ mod range;
 mod replies;
 mod request;
 mod restores;
+mod resumable;
 mod script;
 mod token_lines;
 mod tokens;

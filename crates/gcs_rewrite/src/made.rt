@@ -1,14 +1,36 @@
-//! The metadata of the version that an upload makes.
-ghost use Rattle.std.specs.Prelude.{◌≡◌, [], true, IfOk, OnOk, unwrap_or};
-ghost use Rattle.std.specs.Option.{option_or};
+//! The name and the metadata of the version that an upload makes.
+ghost use Rattle.std.specs.Prelude.{◌≡◌, [], true, IfOk, IsSome, OnOk, unwrap_or};
+ghost use Rattle.std.specs.Option.{option_copied, option_or};
 ghost use Rattle.gcs_meaning.specs.Changes.{changed_pairs};
 ghost use Rattle.gcs_meaning.specs.ObjectChange.{default_content_type};
 ghost use Rattle.gcs_meaning.specs.Pairs.{set_pairs};
+ghost use Rattle.gcs_rewrite.specs.Commands.{made_name, upload_name};
 ghost use Rattle.gcs_rewrite.specs.Made.{made_meta, set_to};
 
 use gcs_json::ObjectBody;
-use gcs_meaning::{Copied, DEFAULT_CONTENT_TYPE, List, Meta, Pairs, Set, Text};
+use gcs_meaning::{Copied, DEFAULT_CONTENT_TYPE, List, Meta, Name, Pairs, Set, Text};
+use gcs_route::Call;
 use std::alloc::{AllocError, Global};
+
+/// The name of the object that an upload makes: that of the query, else that of the body. `Err`: no memory.
+pub fn made_name(call: &Call, body: &ObjectBody) -> Result<Name, AllocError>
+    requires { IsSome (upload_name call.now body.now) }
+    ensures { IfOk result (λ name. name ≡ made_name call.now body.now) }
+{
+    match upload_name(call, body) {
+        Some(name) => Ok(Name::new(name.copy()?)),
+        None => unreachable!(),
+    }
+}
+
+fn upload_name<'a>(call: &'a Call, body: &'a ObjectBody) -> Option<&'a Text>
+    ensures { option_copied result ≡ upload_name call.now body.now }
+{
+    match (&call.name, &body.name) {
+        (Some(name), _) | (None, Some(name)) => Some(name),
+        (None, None) => None,
+    }
+}
 
 /// The metadata that the body of an upload gives, with the content type and the content encoding that came beside it.
 /// `Err`: no memory.

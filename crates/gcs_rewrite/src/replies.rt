@@ -1,9 +1,8 @@
 //! What a request says: its reply, and which one it is by the answer to its command.
 ghost use Rattle.std.specs.Prelude.{◌≡◌, IfOk};
-ghost use Rattle.gcs_rewrite.specs.Answered.{is_not_match, is_read, is_unchanged, object_reply, range_given, range_reply, refused_reply, reply_of};
+ghost use Rattle.gcs_rewrite.specs.Answered.{is_not_match, is_read, is_unchanged, object_reply, range_reply, refused_reply, reply_of};
 
 use crate::range::Range;
-use crate::request::Given;
 use gcs_meaning::{
     Answer, BucketRow, Copied, Key, List, Page, Reason, RewriteReply, Row, Settings, Text,
 };
@@ -29,22 +28,32 @@ pub enum Reply {
         reply: RewriteReply,
         object: Option<(Row, Settings)>,
     },
+    /// The number of a resumable upload that has begun.
+    Started(u64),
+    /// So many bytes of a resumable upload are kept, and more are to come.
+    Kept(u64),
+    /// This request has cancelled a resumable upload.
+    Cancelled,
     NoContent,
     /// What is read has the very number that the reader has.
     NotModified,
 }
 
-/// What a call says of the answer to its command. `Err`: no memory.
-pub fn say(call: &Call, given: &Given, answer: &Answer) -> Result<Reply, AllocError>
-    ensures { IfOk result (λ reply. reply ≡ reply_of call.now given.now answer.now) }
+/// What a call with that range says of an answer. `Err`: no memory.
+pub fn say(call: &Call, range: Option<Range>, answer: &Answer) -> Result<Reply, AllocError>
+    ensures { IfOk result (λ reply. reply ≡ reply_of call.now range answer.now) }
 {
     match answer {
-        Answer::Object(row, settings) => say_object(call, given, row, settings),
+        Answer::Object(row, settings) => say_object(call, range, row, settings),
         Answer::Bucket(row) => Ok(Reply::Bucket(row.copy()?)),
+        Answer::Buckets(rows) => Ok(Reply::Buckets(rows.copy()?, None)),
         Answer::Empty => Ok(Reply::NoContent),
         Answer::Page(page) => Ok(Reply::Page(page.copy()?)),
+        Answer::Started(number) => Ok(Reply::Started(*number)),
+        Answer::Kept(count) => Ok(Reply::Kept(*count)),
+        Answer::Complete(content) => Ok(Reply::Kept(content.len())),
+        Answer::Cancelled => Ok(Reply::Cancelled),
         Answer::Refused(reason) => Ok(say_refusal(call.kind(), *reason)),
-        _ => Ok(Reply::Refused(Reason::NotBuilt)),
     }
 }
 
@@ -90,27 +99,18 @@ fn is_not_match(which: Key) -> bool
 // A version as a read of bytes, or any other call, says it.
 fn say_object(
     call: &Call,
-    given: &Given,
+    range: Option<Range>,
     row: &Row,
     settings: &Settings,
 ) -> Result<Reply, AllocError>
-    ensures { IfOk result (λ reply. reply ≡ object_reply call.now given.now row.now settings.now) }
+    ensures { IfOk result (λ reply. reply ≡ object_reply call.now range row.now settings.now) }
 {
     if call.media {
-        return range_reply(range_given(given), row);
+        return range_reply(range, row);
     }
     let row = row.copy()?;
     let settings = settings.copy()?;
     Ok(Reply::Object(row, settings))
-}
-
-fn range_given(given: &Given) -> Option<Range>
-    ensures { result ≡ range_given given.now }
-{
-    match given {
-        Given::Read { range } => *range,
-        _ => None,
-    }
 }
 
 // What a read of a version's bytes says, by the range that it asks for.

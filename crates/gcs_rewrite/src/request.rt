@@ -1,5 +1,9 @@
 //! A request: its call, and what its message gives beside it.
+ghost use Rattle.std.specs.Prelude.{◌≡◌};
+ghost use Rattle.gcs_rewrite.specs.Answered.{range_given};
+
 use crate::range::Range;
+use gcs_chunks::Content;
 use gcs_json::{BucketBody, ComposeBody, ObjectBody};
 use gcs_meaning::{Hashed, Text};
 use gcs_route::Call;
@@ -26,10 +30,37 @@ pub enum Given {
         kind: Option<Text>,
         hashed: Hashed,
     },
+    /// A resumable upload begins: what its JSON says of the object, the content type and the length of the whole content
+    /// that its head tells, and the host that the message is sent to.
+    Begin {
+        body: ObjectBody,
+        kind: Option<Text>,
+        total: Option<u64>,
+        host: Option<Text>,
+    },
+    /// A piece of a resumable upload: the place of its first byte, which a question for what is kept doesn't tell, the
+    /// length of the whole content, where it is told, and its bytes.
+    Piece {
+        offset: Option<u64>,
+        total: Option<u64>,
+        content: Content,
+    },
     /// What the JSON body of a bucket says.
     Bucket(BucketBody),
     /// What the JSON body of an object says.
     Object(ObjectBody),
     /// What the JSON body of a compose says.
     Compose(ComposeBody),
+}
+
+impl Given {
+    /// The range that is given, if one is.
+    pub fn range(&self) -> Option<Range>
+        ensures { result ≡ range_given self.now }
+    {
+        match self {
+            Given::Read { range } => *range,
+            _ => None,
+        }
+    }
 }

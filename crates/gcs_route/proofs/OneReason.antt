@@ -15,7 +15,7 @@ use Rattle.gcs_route.specs.Finding.{find_row}
 use Rattle.gcs_route.specs.Params.{text_at, IsNoNumber, IsNoCount, IsNoFlag, IsNoUpload, Lacks, Wrong, Refuses}
 use Rattle.gcs_route.specs.Masks.{fields_of}
 use Rattle.gcs_route.proofs.OneMask.{one_place}
-use Rattle.gcs_route.specs.Refusals.{Test, served, bucket, object, query, param, mask, Fails, FirstFails, tests}
+use Rattle.gcs_route.specs.Refusals.{Test, bucket, object, query, param, mask, Fails, FirstFails, tests}
 use Rattle.gcs_route.specs.Pieces.{row_by}
 use Rattle.gcs_route.specs.Calls.{IsFault, IsFaultBy}
 
@@ -73,7 +73,6 @@ one_of_param q UploadId r s f g = needed q key.UploadId IsNoCount r s (λ wrong.
 
 -- so is a test
 one_of_test : (text : List ℕ) (t : Test) (r s : Reason) → Fails text t r → Fails text t s → r ≡ s
-one_of_test text (served kind) r s f g = f.0 ∙ sym g.0
 one_of_test text (bucket name) r s f g = f.0 ∙ sym g.0
 one_of_test text (object name) r s f g = f.0 ∙ sym g.0
 one_of_test text query r s f g = f.0 ∙ sym g.0

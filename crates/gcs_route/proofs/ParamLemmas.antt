@@ -1,9 +1,8 @@
 -- What parameters that are accepted leave in a call.
-use Rattle.std.proofs.Common.{if◌then◌else◌, ◌≡◌, ◌≢◌, ℕ, true, false, sym, subst, refl, ◌∙◌, List, [], ◌∷◌, inl, inr, codes, bytes_eq, map, Some, IsSome, arith, Bool}
+use Rattle.std.proofs.Common.{if◌then◌else◌, ◌≡◌, ◌≢◌, ℕ, true, false, subst, refl, ◌∙◌, List, [], ◌∷◌, inl, codes, bytes_eq, map, Some, IsSome, arith, Bool}
 use Rattle.std.specs.Option.{ForSome}
 use Rattle.std.specs.Char.{to_ascii_lowercase}
 use Rattle.std.specs.Str.Parse.{digits_value}
-use Rattle.std.proofs.lemmas.Bool.{true≢false}
 use Rattle.std.proofs.lemmas.Slice.Eq.{bytes_eq-Decides}
 use Rattle.gcs_names.specs.Name.{IsObjectName}
 use Rattle.gcs_query.specs.Query.{Pair}
@@ -12,12 +11,10 @@ use Rattle.gcs_meaning.specs.declared.reason.Reason.TheVariants.{Required, Inval
 use Rattle.gcs_route.specs.declared.call.Call.{Call}
 use Rattle.gcs_route.specs.declared.call.UploadKind.TheVariants.{Media, Multipart, Resumable}
 use Rattle.gcs_route.specs.declared.table.Param.{Param}
-use Rattle.gcs_route.specs.declared.table.Param.TheVariants.{Alt, GenerationOfGet, UploadType, Name, MaxResults, NeededGeneration, NeededMetageneration, UploadId}
-use Rattle.gcs_route.specs.Params.{text_at, IsNoCount, IsNoName, IsNoUpload, Accepts}
+use Rattle.gcs_route.specs.declared.table.Param.TheVariants.{Alt, GenerationOfGet, Name, MaxResults, NeededGeneration, NeededMetageneration, UploadId}
+use Rattle.gcs_route.specs.Params.{text_at, IsNoCount, IsNoName, Accepts}
 use Rattle.gcs_route.specs.Filling.{number_of, given, flag_of, upload_of, most_of, filled, all_filled}
 use Rattle.gcs_route.specs.OfTable.{IsPageSize}
-use Rattle.gcs_route.specs.OfTable.{BringsWhole}
-use Rattle.gcs_route.specs.Served.{unserved_uploads, is_among}
 use Rattle.gcs_route.proofs.Stable.{sure_object}
 
 -- no parameter changes the row or the names of a call
@@ -67,23 +64,14 @@ soft_generation q accepts soft =
     let set = (bytes_eq-Decides (map to_ascii_lowercase (text_at q key.SoftDeleted)) (codes "true")).0 soft in
     number_there _ (λ none. accepts (Required key.Generation) (inl (set, (refl, none))))
 
-whole_by : (media multipart : Bool) → (media ≡ false → multipart ≡ false → ⊥) → BringsWhole (if media then Some Media else if multipart then Some Multipart else Some Resumable)
-whole_by true multipart other = tt
-whole_by false true other = tt
-whole_by false false other = absurd (other refl refl)
+kind_there : (media multipart : Bool) → IsSome (if media then Some Media else if multipart then Some Multipart else Some Resumable)
+kind_there true multipart = refl
+kind_there false true = refl
+kind_there false false = refl
 
-whole_of : (text : List ℕ) → text ≢ [] → ¬ IsNoUpload text → is_among unserved_uploads text ≡ false → BringsWhole (upload_of text)
-whole_of text some right served = whole_by (bytes_eq text (codes "media")) (bytes_eq text (codes "multipart")) (λ media multipart. right (
-  some,
-  (λ is. true≢false (sym ((bytes_eq-Decides text (codes "media")).1 is) ∙ media)),
-  (λ is. true≢false (sym ((bytes_eq-Decides text (codes "multipart")).1 is) ∙ multipart)),
-  (λ is. true≢false (subst (λ t. is_among unserved_uploads t ≡ false) is served)),
-))
-
--- an upload that is served brings a whole content
-pub whole_upload : (q : List Pair) → Accepts q UploadType → is_among unserved_uploads (text_at q key.UploadType) ≡ false → BringsWhole (upload_of (text_at q key.UploadType))
-whole_upload q accepts served =
-    whole_of (text_at q key.UploadType) (λ none. accepts (Required key.UploadType) (inl (refl, none))) (λ wrong. accepts (Invalid key.UploadType) (inr (refl, wrong))) served
+-- an upload has a way in which it is made
+pub upload_there : (text : List ℕ) → IsSome (upload_of text)
+upload_there text = kind_there (bytes_eq text (codes "media")) (bytes_eq text (codes "multipart"))
 
 name_of : (text : List ℕ) → ¬ IsNoName text → ForSome (given text) IsObjectName
 name_of [] right x is = cc

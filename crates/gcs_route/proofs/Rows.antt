@@ -1,10 +1,12 @@
 -- The tests of a row: names, query, parameters, mask.
-use Rattle.std.proofs.Common.{◌≡◌, ℕ, true, false, List, [], ◌∷◌, ◌++◌, map, inl, inr, ⊎_elim, Option, Some, None, subst, sym, ap, refl, ◌∙◌}
+use Rattle.std.proofs.Common.{if◌then◌else◌, ◌≡◌, ℕ, Bool, true, false, List, [], ◌∷◌, codes, map, inl, inr, ⊎_elim, Option, Some, None, subst, sym, ap, refl, ◌∙◌}
 use Rattle.gcs_query.specs.Query.{Pair, pairs_of}
 use Rattle.gcs_meaning.specs.declared.reason.Reason.{Reason}
 use Rattle.gcs_route.specs.declared.fault.RouteFault.{RouteFault}
 use Rattle.gcs_route.specs.declared.fault.RouteFault.TheVariants.{Refused, NoMemory}
+use Rattle.gcs_route.specs.declared.kind.RequestKind.TheVariants.{UploadPiece}
 use Rattle.gcs_route.specs.declared.table.Param.{Param}
+use Rattle.gcs_route.specs.declared.table.Param.TheVariants.{UploadId}
 use Rattle.gcs_route.specs.declared.call.Call.{Call}
 use Rattle.gcs_route.specs.declared.call.MaskPart.{MaskPart}
 use Rattle.gcs_route.specs.declared.call.MaskPart.TheVariants.{Absent, Is, Fault}
@@ -15,16 +17,12 @@ use Rattle.gcs_route.specs.Masks.{IsMaskPart, IsMaskFault}
 use Rattle.gcs_route.specs.Table.{Row, routes}
 use Rattle.gcs_route.specs.Paths.{segments, path_of, query_of}
 use Rattle.gcs_route.specs.Finding.{find_row}
-use Rattle.gcs_route.specs.Calls.{named, IsCallOf, IsFaultOfRow, IsCall, IsFaultBy}
+use Rattle.gcs_route.specs.Kinds.{row_of}
+use Rattle.gcs_route.specs.Calls.{blank, named, IsCallOf, IsCall, IsFaultBy}
 use Rattle.gcs_route.specs.Params.{Accepts, AllAccepted, FirstRefuses, IsFirstFaultOf}
 use Rattle.gcs_route.specs.Filling.{all_filled}
-use Rattle.gcs_route.specs.Pieces.{row_by}
-use Rattle.gcs_route.specs.Pairs.{AreAsIn, AreReadOf, AreNoTexts}
-use Rattle.gcs_route.specs.Served.{is_unserved}
-use Rattle.gcs_route.specs.declared.kind.RequestKind.{RequestKind}
-use Rattle.gcs_route.specs.declared.pairs.QueryPairs.{QueryPairs}
-use Rattle.gcs_route.specs.declared.pairs.QueryPairs.TheVariants.{Texts, Bytes}
-use Rattle.gcs_route.specs.Refusals.{served, query, param, Passes, AllPass, FirstFails, IsFirstFault, name_tests, mask_tests, value_tests, tests, AlwaysPass, IsAlwaysFirstFault}
+use Rattle.gcs_route.specs.Pieces.{is_piece, row_by}
+use Rattle.gcs_route.specs.Refusals.{query, param, Passes, AllPass, FirstFails, IsFirstFault, name_tests, names_at, mask_tests, value_tests, tests, AlwaysPass, IsAlwaysFirstFault}
 use Rattle.gcs_route.proofs.Firsts.{AllPass-append, IsFirstFault-front, IsFirstFault-rest}
 
 -- parameters that are accepted pass as tests
@@ -47,39 +45,27 @@ unread_tested e = cc
 kept_tested : Kept ≡ Tested → ⊥
 kept_tested e = cc
 
--- a request that is served passes
-pub served_passes : (text : List ℕ) (pairs : List Pair) (kind : RequestKind) → pairs ≡ pairs_of text → is_unserved pairs kind ≡ false → Passes text (served kind)
-served_passes text pairs kind p is reason fails =
-    let unserved : is_unserved pairs kind ≡ true = subst (λ x. is_unserved x kind ≡ true) (sym p) fails.1 in
-    absurd (cc (is, unserved))
-
--- the tests behind the first tell the reason where the request is served
-behind_served : (row : Row) (segs : List (List ℕ)) (text : List ℕ) (f : RouteFault) → Passes text (served row.kind)
-    → IsFirstFault text (name_tests row.path segs ++ query ∷ value_tests row) f → IsFirstFault text (tests row segs) f
-behind_served row segs text (Refused r) is_served h = inr (is_served, h)
-behind_served row segs text NoMemory is_served h = tt
-
 -- a name is refused
-pub refused_name : (row : Row) (segs : List (List ℕ)) (text : List ℕ) (f : RouteFault) → Passes text (served row.kind) → IsAlwaysFirstFault (name_tests row.path segs) f → IsFirstFault text (tests row segs) f
-refused_name row segs text f is_served h = behind_served row segs text f is_served (IsFirstFault-front text (name_tests row.path segs) (query ∷ value_tests row) f (h text))
+pub refused_name : (row : Row) (segs : List (List ℕ)) (text : List ℕ) (f : RouteFault) → IsAlwaysFirstFault (name_tests row.path segs) f → IsFirstFault text (tests row segs) f
+refused_name row segs text f h = IsFirstFault-front text (name_tests row.path segs) (query ∷ value_tests row) f (h text)
 
 -- the query is refused
-pub refused_query : (row : Row) (segs : List (List ℕ)) (text : List ℕ) (f : RouteFault) → Passes text (served row.kind) → AlwaysPass (name_tests row.path segs) → IsFirstFault text (query ∷ []) f → IsFirstFault text (tests row segs) f
-refused_query row segs text f is_served names h =
-    behind_served row segs text f is_served (IsFirstFault-rest text (name_tests row.path segs) (query ∷ value_tests row) f (names text) (IsFirstFault-front text (query ∷ []) (value_tests row) f h))
+pub refused_query : (row : Row) (segs : List (List ℕ)) (text : List ℕ) (f : RouteFault) → AlwaysPass (name_tests row.path segs) → IsFirstFault text (query ∷ []) f → IsFirstFault text (tests row segs) f
+refused_query row segs text f names h =
+    IsFirstFault-rest text (name_tests row.path segs) (query ∷ value_tests row) f (names text) (IsFirstFault-front text (query ∷ []) (value_tests row) f h)
 
 -- a parameter or the mask is refused
-refused_value : (row : Row) (segs : List (List ℕ)) (text : List ℕ) (f : RouteFault) → Passes text (served row.kind) → AlwaysPass (name_tests row.path segs) → Passes text query
+refused_value : (row : Row) (segs : List (List ℕ)) (text : List ℕ) (f : RouteFault) → AlwaysPass (name_tests row.path segs) → Passes text query
     → IsFirstFault text (value_tests row) f → IsFirstFault text (tests row segs) f
-refused_value row segs text f is_served names is_text h =
-    behind_served row segs text f is_served (IsFirstFault-rest text (name_tests row.path segs) (query ∷ value_tests row) f (names text)
-    (IsFirstFault-rest text (query ∷ []) (value_tests row) f (is_text, tt) h))
+refused_value row segs text f names is_text h =
+    IsFirstFault-rest text (name_tests row.path segs) (query ∷ value_tests row) f (names text)
+    (IsFirstFault-rest text (query ∷ []) (value_tests row) f (is_text, tt) h)
 
 -- a parameter of these pairs is refused
-pub refused_param : (row : Row) (segs : List (List ℕ)) (text : List ℕ) (f : RouteFault) (pairs : List Pair) → pairs ≡ pairs_of text → Passes text (served row.kind) → AlwaysPass (name_tests row.path segs) → Passes text query
+pub refused_param : (row : Row) (segs : List (List ℕ)) (text : List ℕ) (f : RouteFault) (pairs : List Pair) → pairs ≡ pairs_of text → AlwaysPass (name_tests row.path segs) → Passes text query
     → IsFirstFaultOf pairs row.params f → IsFirstFault text (tests row segs) f
-refused_param row segs text f pairs p is_served names is_text h =
-    refused_value row segs text f is_served names is_text
+refused_param row segs text f pairs p names is_text h =
+    refused_value row segs text f names is_text
     (IsFirstFault-front text (map param row.params) (mask_tests row.masking) f
     (params_fault text row.params f (subst (λ x. IsFirstFaultOf x row.params f) p h)))
 
@@ -91,10 +77,10 @@ mask_fault text Kept (Refused r) h = absurd (kept_tested h.0)
 mask_fault text masking NoMemory h = tt
 
 -- the mask of these pairs is refused
-pub refused_mask : (row : Row) (segs : List (List ℕ)) (text : List ℕ) (f : RouteFault) (pairs : List Pair) → pairs ≡ pairs_of text → Passes text (served row.kind) → AlwaysPass (name_tests row.path segs) → Passes text query
+pub refused_mask : (row : Row) (segs : List (List ℕ)) (text : List ℕ) (f : RouteFault) (pairs : List Pair) → pairs ≡ pairs_of text → AlwaysPass (name_tests row.path segs) → Passes text query
     → AllAccepted pairs row.params → IsMaskFault pairs row.masking f → IsFirstFault text (tests row segs) f
-refused_mask row segs text f pairs p is_served names is_text accepted h =
-    refused_value row segs text f is_served names is_text
+refused_mask row segs text f pairs p names is_text accepted h =
+    refused_value row segs text f names is_text
     (IsFirstFault-rest text (map param row.params) (mask_tests row.masking) f
     (params_pass text row.params (subst (λ x. AllAccepted x row.params) p accepted))
     (mask_fault text row.masking f (subst (λ x. IsMaskFault x row.masking f) p h)))
@@ -108,23 +94,21 @@ mask_passes text Tested (Is mask) h = (λ reason bad. bad.2.2 (mask_of mask) h.2
 mask_passes text Tested (Fault place) h = absurd (kept_tested (sym h.0))
 
 -- all tests pass
-all_pass : (row : Row) (segs : List (List ℕ)) (text : List ℕ) (part : MaskPart) → Passes text (served row.kind) → AlwaysPass (name_tests row.path segs) → Passes text query
+all_pass : (row : Row) (segs : List (List ℕ)) (text : List ℕ) (part : MaskPart) → AlwaysPass (name_tests row.path segs) → Passes text query
     → AllAccepted (pairs_of text) row.params → IsMaskPart (pairs_of text) row.masking part → AllPass text (tests row segs)
-all_pass row segs text part is_served names is_text accepted masked = (
-  is_served,
-  AllPass-append text (name_tests row.path segs) (query ∷ value_tests row) (names text) (
-    is_text,
-    AllPass-append text (map param row.params) (mask_tests row.masking) (params_pass text row.params accepted) (mask_passes text row.masking part masked),
-  ),
-)
+all_pass row segs text part names is_text accepted masked =
+    AllPass-append text (name_tests row.path segs) (query ∷ value_tests row) (names text) (
+      is_text,
+      AllPass-append text (map param row.params) (mask_tests row.masking) (params_pass text row.params accepted) (mask_passes text row.masking part masked),
+    )
 
 -- a call by its parts: the names, the parameters and the mask of these pairs
 pub is_call_of : (row : Row) (segs : List (List ℕ)) (text : List ℕ) (start call : Call) (part : MaskPart) (pairs : List Pair) → pairs ≡ pairs_of text
-    → start ≡ named row segs → Passes text (served row.kind) → AlwaysPass (name_tests row.path segs) → Passes text query
+    → start ≡ named row segs → AlwaysPass (name_tests row.path segs) → Passes text query
     → AllAccepted pairs row.params → call ≡ all_filled pairs start row.params → IsMaskPart pairs row.masking part → IsCallOf row segs text (record call { mask = part })
-is_call_of row segs text start call part pairs p s is_served names is_text accepted f m =
+is_call_of row segs text start call part pairs p s names is_text accepted f m =
     let masked = subst (λ x. IsMaskPart x row.masking part) p m in (
-      all_pass row segs text part is_served names is_text (subst (λ x. AllAccepted x row.params) p accepted) masked,
+      all_pass row segs text part names is_text (subst (λ x. AllAccepted x row.params) p accepted) masked,
       part,
       masked,
       ap (λ (x : Call). record x { mask = part }) (f ∙ ap (λ x. all_filled pairs x row.params) s ∙ ap (λ x. all_filled x (named row segs) row.params) p),
@@ -139,26 +123,33 @@ is_call method target row segs text call s q f h = (
   subst (λ x. IsCallOf (row_by (pairs_of (query_of target)) row) x (query_of target) call) s (subst (λ x. IsCallOf (row_by (pairs_of x) row) segs x call) q h),
 )
 
--- a query whose pairs are no texts is refused as a test
-pub no_texts : (text : List ℕ) (pairs : QueryPairs) (f : RouteFault) → AreAsIn text pairs → AreNoTexts pairs f → IsFirstFault text (query ∷ []) f
-no_texts text (Texts pairs) f kind h = absurd h
-no_texts text (Bytes pairs) f kind h = subst (IsFirstFault text (query ∷ [])) (sym h) (inl (refl, kind))
-
 -- want of memory is a fault whatever the row
 pub no_memory : (o : Option Row) (segs : List (List ℕ)) (text : List ℕ) → IsFaultBy o segs text NoMemory
 no_memory None segs text = tt
 no_memory (Some row) segs text = tt
 
--- a fault of the row by these pairs is one of the row by the query
-pub fault_by_row : (row by : Row) (segs : List (List ℕ)) (text : List ℕ) (pairs : List Pair) (f : RouteFault) → pairs ≡ pairs_of text → by ≡ row_by pairs row
-    → IsFirstFault text (tests by segs) f → IsFaultOfRow (row_by (pairs_of text) row) segs text f
-fault_by_row row by segs text pairs f p b h = subst (λ x. IsFirstFault text (tests x segs) f) (b ∙ ap (λ x. row_by x row) p) h
+-- a request's query leaves the path of its row
+pub same_path : (pairs : List Pair) (row : Row) → (row_by pairs row).path ≡ row.path
+same_path pairs row = path_by (is_piece pairs row)
+  where
+    path_by : (piece : Bool) → (if piece then record row { kind = UploadPiece; params = UploadId ∷ [] } else row).path ≡ row.path
+    path_by true = refl
+    path_by false = refl
 
--- and so is a call
-pub call_by_row : (row by : Row) (segs : List (List ℕ)) (text : List ℕ) (pairs : List Pair) (call : Call) → pairs ≡ pairs_of text → by ≡ row_by pairs row
-    → IsCallOf by segs text call → IsCallOf (row_by (pairs_of text) row) segs text call
-call_by_row row by segs text pairs call p b h = subst (λ x. IsCallOf x segs text call) (b ∙ ap (λ x. row_by x row) p) h
+-- the row by these pairs is the row by the query
+pub by_query : (row by : Row) (text : List ℕ) (pairs : List Pair) → pairs ≡ pairs_of text → by ≡ row_by pairs row → by ≡ row_by (pairs_of text) row
+by_query row by text pairs p b = b ∙ ap (λ x. row_by x row) p
 
--- the texts of a query are its pairs, and it passes
-pub texts_pass : (text : List ℕ) (pairs : QueryPairs) (texts : List Pair) → pairs ≡ Texts texts → AreReadOf text pairs → (texts ≡ pairs_of text) × Passes text query
-texts_pass text pairs texts e h = let read = subst (AreReadOf text) e h in (read.same, read.kind)
+-- its names pass where those of the path do
+pub names_by : (row by : Row) (segs : List (List ℕ)) (pairs : List Pair) → by ≡ row_by pairs row → AlwaysPass (name_tests row.path segs) → AlwaysPass (name_tests by.path segs)
+names_by row by segs pairs b names = subst (λ path. AlwaysPass (name_tests path segs)) (sym (ap (λ (x : Row). x.path) b ∙ same_path pairs row)) names
+
+-- its call has the names of the path
+pub named_by : (row by : Row) (segs : List (List ℕ)) (pairs : List Pair) (start : Call) → by ≡ row_by pairs row
+    → start ≡ blank (row_of by.kind) (names_at (codes "{bucket}") row.path segs) (names_at (codes "{object}") row.path segs) → start ≡ named by segs
+named_by row by segs pairs start b is =
+    is ∙ ap (λ path. blank (row_of by.kind) (names_at (codes "{bucket}") path segs) (names_at (codes "{object}") path segs)) (sym (ap (λ (x : Row). x.path) b ∙ same_path pairs row))
+
+-- a call of the row by these pairs is one of the row by the query
+pub call_by_query : (row by : Row) (segs : List (List ℕ)) (text : List ℕ) (call : Call) → by ≡ row_by (pairs_of text) row → IsCallOf by segs text call → IsCallOf (row_by (pairs_of text) row) segs text call
+call_by_query row by segs text call b h = subst (λ x. IsCallOf x segs text call) b h

@@ -5,10 +5,8 @@ pub mod Kinds
 pub mod Masks
 pub mod OfCall
 pub mod OfTable
-pub mod Pairs
 pub mod Params
 pub mod Paths
 pub mod Pieces
 pub mod Refusals
-pub mod Served
 pub mod Table

@@ -1,27 +1,23 @@
 -- The refusals of a request, as a list of tests: the first that fails tells the reason.
-use Rattle.std.specs.Prelude.{◌≡◌, ℕ, true, List, [], ◌∷◌, ◌++◌, ◌⊎◌, map, codes, bytes_eq, if◌then◌else◌}
+use Rattle.std.specs.Prelude.{◌≡◌, ℕ, List, [], ◌∷◌, ◌++◌, ◌⊎◌, map, codes, bytes_eq, if◌then◌else◌}
 use Rattle.gcs_names.specs.Name.{IsBucketName, IsObjectName}
 use Rattle.gcs_query.specs.Query.{pairs_of, IsFirstBad}
 use Rattle.percent_encoding.specs.Percent.{percent_decode}
 use Rattle.gcs_meaning.specs.declared.reason.Key.{Key}
 use Rattle.gcs_meaning.specs.declared.reason.Key.TheVariants.{Bucket, Object, Query}
 use Rattle.gcs_meaning.specs.declared.reason.Reason.{Reason}
-use Rattle.gcs_meaning.specs.declared.reason.Reason.TheVariants.{NotBuilt, Invalid}
+use Rattle.gcs_meaning.specs.declared.reason.Reason.TheVariants.{Invalid}
 use Rattle.gcs_route.specs.declared.fault.RouteFault.{RouteFault}
 use Rattle.gcs_route.specs.declared.fault.RouteFault.TheVariants.{Refused, NoMemory}
-use Rattle.gcs_route.specs.declared.kind.RequestKind.{RequestKind}
 use Rattle.gcs_route.specs.declared.table.Masking.{Masking}
 use Rattle.gcs_route.specs.declared.table.Masking.TheVariants.{Unread, Tested, Kept}
 use Rattle.gcs_route.specs.declared.table.Param.{Param}
 use Rattle.gcs_route.specs.Table.{Row}
 use Rattle.gcs_route.specs.Params.{Refuses}
 use Rattle.gcs_route.specs.Masks.{RefusesMask}
-use Rattle.gcs_route.specs.Served.{is_unserved}
 
--- a test: that requests of a kind are served, of a bucket's name, of an object's name, of the query's text, of a
--- parameter, of the mask
+-- a test: of a bucket's name, of an object's name, of the query's text, of a parameter, of the mask
 pub data Test : Type 0 where
-  served : RequestKind → Test
   bucket : List ℕ → Test
   object : List ℕ → Test
   query : Test
@@ -53,11 +49,10 @@ value_tests row = map param row.params ++ mask_tests row.masking
 
 -- all tests of a row, in their order
 abbrev pub tests : Row → List (List ℕ) → List Test
-tests row segments = served row.kind ∷ name_tests row.path segments ++ query ∷ value_tests row
+tests row segments = name_tests row.path segments ++ query ∷ value_tests row
 
 -- the test of a request with this query fails for that reason
 abbrev pub Fails : List ℕ → Test → Reason → Type 0
-Fails text (served kind) reason = (reason ≡ NotBuilt) × (is_unserved (pairs_of text) kind ≡ true)
 Fails text (bucket name) reason = (reason ≡ Invalid Bucket) × ¬ IsBucketName name
 Fails text (object name) reason = (reason ≡ Invalid Object) × ¬ IsObjectName name
 Fails text query reason = (reason ≡ Invalid Query) × ((n : ℕ) × IsFirstBad text n)

@@ -11,7 +11,6 @@ mod pairs;
 mod params;
 mod paths;
 mod routing;
-mod served;
 mod table;
 mod values;
 

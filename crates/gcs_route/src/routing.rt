@@ -1,13 +1,11 @@
 //! The row of the table that a request is, with its names and its parameters.
 ghost use Rattle.std.specs.Prelude.{◌≡◌, ◌&&◌, not, [], bytes_eq, map, IfOk, IfErr};
 ghost use Rattle.gcs_query.specs.Query.{pairs_of};
-ghost use Rattle.gcs_route.specs.Calls.{IsCall, IsFault, IsCallOf, IsFaultOfRow, blank, named};
+ghost use Rattle.gcs_route.specs.Calls.{IsCall, IsFault, IsCallOf, IsFaultOfRow, blank};
 ghost use Rattle.gcs_route.specs.Kinds.{is_upload};
 ghost use Rattle.gcs_route.specs.OfTable.{IsOfTable};
-ghost use Rattle.gcs_route.specs.Pairs.{pairs_in};
 ghost use Rattle.gcs_route.specs.Params.{text_at};
 ghost use Rattle.gcs_route.specs.Pieces.{row_by};
-ghost use Rattle.gcs_route.specs.Refusals.{name_tests, AlwaysPass, IsAlwaysFirstFault};
 ghost use Rattle.gcs_route.specs.Table.{route_of};
 
 use crate::call::{Call, MaskPart};
@@ -15,21 +13,21 @@ use crate::fault::RouteFault;
 use crate::kind::RequestKind;
 use crate::masks::read_fields;
 use crate::naming::read_names;
-use crate::pairs::{QueryPairs, read_pairs};
+use crate::pairs::read_pairs;
 use crate::params::read_params;
 use crate::paths::{find_route, has_path, path_of, query_of, segments};
-use crate::served::check_served;
 use crate::table::{Param, Route, all_routes};
 use gcs_meaning::{BucketName, Key, List, Name, Pre, Reason, Text, key_text};
+use gcs_query::Query;
 use std::alloc::Global;
 
 /// The call that a request is: its row, names, parameters and mask. `target` is a path and, behind its first `?`, a query.
 ///
 /// `Refused` has the reason of the first test that fails, in this order: a row has the path (`NoPath`), with this method
-/// (`NoMethod`); the request is served (`NotBuilt`); the names of the path (`Invalid`); the query is text once decoded
-/// (`Invalid`); the parameters of the row, in its order (`Required`, `Invalid`); the mask `fields` (`BadMask`), which
-/// deletions and downloads do not read, and which lists and rewrites keep in the call where it is none. A call has the
-/// names and parameters that its row needs (`fits`).
+/// (`NoMethod`); the names of the path (`Invalid`); the query is text once decoded (`Invalid`); the parameters of the row,
+/// in its order (`Required`, `Invalid`); the mask `fields` (`BadMask`), which deletions and downloads do not read, and
+/// which lists and rewrites keep in the call where it is none. A call has the names and parameters that its row needs
+/// (`fits`).
 /// Source: Cloud Storage JSON API, the HTTP requests and parameters of "Buckets" and "Objects".
 pub fn route(alloc: Global, method: &[u8], target: &[u8]) -> Result<Call, RouteFault>
     ensures call { IfOk result (IsCall method.now target.now) }
@@ -58,21 +56,22 @@ fn read_call(
     ensures call { IfOk result (IsCallOf (row_by (pairs_of query.now) (route_of route.now)) (map (λ s. s.now) segments.now) query.now) }
     ensures fault { IfErr result (IsFaultOfRow (row_by (pairs_of query.now) (route_of route.now)) (map (λ s. s.now) segments.now) query.now) }
 {
-    let pairs = read_pairs(alloc, query)?;
-    let route = route_by(route, &pairs);
-    check_served(route.kind, &pairs)?;
-    let mut call = named_call(alloc, &route, segments)?;
-    let query = pairs.into_query()?;
+    let mut buckets = List::new(alloc);
+    let mut objects = List::new(alloc);
+    read_names(alloc, route.path, segments, &mut buckets, &mut objects)?;
+    let query = read_pairs(alloc, query)?;
+    let route = route_by(route, &query);
+    let mut call = blank(alloc, route.kind.row(), buckets, objects);
     read_params(alloc, &query, &mut call, route.params)?;
     call.mask = read_fields(alloc, &query, route.masking)?;
     Ok(call)
 }
 
 // The row that a request is of by its query.
-fn route_by(route: &Route, pairs: &QueryPairs) -> Route
-    ensures { route_of result ≡ row_by (pairs_in pairs.now) (route_of route.now) }
+fn route_by(route: &Route, query: &Query) -> Route
+    ensures { route_of result ≡ row_by query.now (route_of route.now) }
 {
-    if !is_piece(route.kind, pairs) {
+    if !is_piece(route.kind, query) {
         return *route;
     }
     Route {
@@ -83,22 +82,10 @@ fn route_by(route: &Route, pairs: &QueryPairs) -> Route
 }
 
 // Whether the request goes on with an upload that has begun.
-fn is_piece(kind: RequestKind, pairs: &QueryPairs) -> bool
-    ensures { result ≡ (is_upload kind && not (bytes_eq (text_at (pairs_in pairs.now) Key.UploadId) [])) }
+fn is_piece(kind: RequestKind, query: &Query) -> bool
+    ensures { result ≡ (is_upload kind && not (bytes_eq (text_at query.now Key.UploadId) [])) }
 {
-    kind.is_upload() && !pairs.value(key_text(Key::UploadId)).is_empty()
-}
-
-// The call with its names.
-fn named_call(alloc: Global, route: &Route, segments: &[&[u8]]) -> Result<Call, RouteFault>
-    ensures value { IfOk result (λ call. call ≡ named (route_of route.now) (map (λ s. s.now) segments.now)) }
-    ensures right { IfOk result (λ _. AlwaysPass (name_tests (route_of route.now).path (map (λ s. s.now) segments.now))) }
-    ensures wrong { IfErr result (IsAlwaysFirstFault (name_tests (route_of route.now).path (map (λ s. s.now) segments.now))) }
-{
-    let mut buckets = List::new(alloc);
-    let mut objects = List::new(alloc);
-    read_names(alloc, route.path, segments, &mut buckets, &mut objects)?;
-    Ok(blank(alloc, route.kind.row(), buckets, objects))
+    kind.is_upload() && query.text(key_text(Key::UploadId)).is_some()
 }
 
 // A call of that row with its names, and without parameters.

@@ -10,10 +10,10 @@ use Rattle.gcs_multipart.proofs.FirstContents.{ended_first, no_first, one_first}
 use Rattle.gcs_multipart.proofs.OneBody.{one_body}
 use Rattle.gcs_request.specs.Parts.{AreOthers, IsLong, IsTwo}
 use Rattle.gcs_session.specs.declared.bounded.Bounded.{Bounded}
-use Rattle.gcs_session.specs.declared.kept.Kept.{Kept}
+use Rattle.gcs_session.specs.declared.hashing.Hashing.{Hashing}
 use Rattle.gcs_session.specs.declared.two_parts.PartsKept.{PartsKept}
 use Rattle.gcs_session.specs.declared.two_parts.PartsKept.TheVariants as kept
-use Rattle.gcs_session.specs.Holding.{IsHeld}
+use Rattle.gcs_session.specs.Holding.{IsHashing}
 use Rattle.gcs_session.specs.TwoParts.{AreKept, begun, first_of}
 
 -- what a reader of parts says where the body ends: whether it is over, and how many bytes are held back
@@ -74,7 +74,7 @@ one-short most b bytes p over held text (part ∷ []) None says fits stands few 
 one-short most b bytes p over held text (part ∷ second ∷ parts) None says fits stands few x = absurd x
 one-short most b bytes p over held text (part ∷ parts) (Some it) says fits stands few x = absurd x
 
-pub two-short : (most : ℕ) (b bytes : List ℕ) (p : Parts) (text : Bounded) (kind : Option (List ℕ)) (content : Kept) (whole : List Part) (current : Option Part) → Stands p b bytes whole current
+pub two-short : (most : ℕ) (b bytes : List ℕ) (p : Parts) (text : Bounded) (kind : Option (List ℕ)) (content : Hashing) (whole : List Part) (current : Option Part) → Stands p b bytes whole current
     → AreKept most (kept.Two text kind content) (begun whole current) → ¬ IsLong most b bytes
 two-short most b bytes p text kind content [] None stands x = absurd x
 two-short most b bytes p text kind content [] (Some it) stands x = absurd x
@@ -112,22 +112,22 @@ are-others most b bytes p true held k whole current says fits stands x none = λ
 -- ---- or they are
 
 -- two parts that are whole
-pub record AreWhole (most : ℕ) (b bytes : List ℕ) (text : Bounded) (kind : Option (List ℕ)) (content : Kept) : Type 0 where
+pub record AreWhole (most : ℕ) (b bytes : List ℕ) (text : Bounded) (kind : Option (List ℕ)) (content : Hashing) : Type 0 where
   pub json : Part
   pub it : Part
   pub body : IsBody b (it ∷ json ∷ []) bytes
   pub kept : AreKept most (kept.Two text kind content) (it ∷ json ∷ [])
 
-pub two-whole : (most : ℕ) (b bytes : List ℕ) (text : Bounded) (kind : Option (List ℕ)) (content : Kept) (whole : List Part) → IsBody b whole bytes
+pub two-whole : (most : ℕ) (b bytes : List ℕ) (text : Bounded) (kind : Option (List ℕ)) (content : Hashing) (whole : List Part) → IsBody b whole bytes
     → AreKept most (kept.Two text kind content) whole → AreWhole most b bytes text kind content
 two-whole most b bytes text kind content [] body x = absurd x
 two-whole most b bytes text kind content (it ∷ []) body x = absurd x
 two-whole most b bytes text kind content (it ∷ json ∷ []) body x = record { json = json; it = it; body = body; kept = x }
 two-whole most b bytes text kind content (it ∷ json ∷ part ∷ parts) body x = absurd x
 
-pub is-two : (most : ℕ) (b bytes : List ℕ) (p : Parts) (held : ℕ) (text : Bounded) (kind : Option (List ℕ)) (content : Kept) (hashed : Digested) (whole : List Part) (current : Option Part)
+pub is-two : (most : ℕ) (b bytes : List ℕ) (p : Parts) (held : ℕ) (text : Bounded) (kind : Option (List ℕ)) (content : Hashing) (hashed : Digested) (whole : List Part) (current : Option Part)
     → Says p true held → Stands p b bytes whole current → AreKept most (kept.Two text kind content) (begun whole current)
-    → ((all : List ℕ) → IsHeld content all → bytes_in hashed ≡ all) → hashed.with_md5 ≡ true → IsTwo most b bytes text.bytes.items kind hashed
+    → ((all : List ℕ) → IsHashing content all → bytes_in hashed ≡ all) → hashed.with_md5 ≡ true → IsTwo most b bytes text.bytes.items kind hashed
 is-two most b bytes p held text kind content hashed whole current says stands x holds md5 =
     let all = says.whole refl b bytes whole current stands in
     let w = two-whole most b bytes text kind content whole all.0 (subst (λ (c : Option Part). AreKept most (kept.Two text kind content) (begun whole c)) all.1 x) in

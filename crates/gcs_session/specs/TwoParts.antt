@@ -7,7 +7,7 @@ use Rattle.gcs_request.specs.Parts.{part_type}
 use Rattle.gcs_session.specs.declared.two_parts.PartsKept.{PartsKept}
 use Rattle.gcs_session.specs.declared.two_parts.PartsKept.TheVariants as kept
 use Rattle.gcs_session.specs.declared.two_parts.TwoParts.{TwoParts}
-use Rattle.gcs_session.specs.Holding.{IsHeld, IsTextOf}
+use Rattle.gcs_session.specs.Holding.{IsHashing, IsTextOf}
 
 -- the parts that have begun, the newest first: those that are whole, and then the one under way
 abbrev pub begun : List Part → Option Part → List Part
@@ -24,7 +24,7 @@ first_of it (part ∷ parts) = first_of part parts
 abbrev pub AreKept : ℕ → PartsKept → List Part → Type 0
 AreKept most kept.Nothing [] = Unit {0}
 AreKept most (kept.One text) (json ∷ []) = IsTextOf most text json.content
-AreKept most (kept.Two text kind content) (it ∷ json ∷ []) = IsTextOf most text json.content × (kind ≡ part_type it) × IsHeld content it.content
+AreKept most (kept.Two text kind content) (it ∷ json ∷ []) = IsTextOf most text json.content × (kind ≡ part_type it) × IsHashing content it.content
 AreKept most kept.TooLong (it ∷ parts) = most < length (first_of it parts).content
 AreKept most kept.Others (it ∷ second ∷ json ∷ parts) = length (first_of json parts).content ≤ most
 AreKept most _ _ = ⊥

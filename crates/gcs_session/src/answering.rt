@@ -11,6 +11,7 @@ ghost use Rattle.gcs_session.specs.Running.{lengths, GoesOn, RanTo};
 ghost use Rattle.gcs_session.specs.Served.{IsAnswered, Replies};
 
 use crate::coming::Coming;
+use gcs_chunks::Chunks;
 use gcs_io::Clock;
 use gcs_meaning::{Desk, Reason};
 use gcs_reply::{Form, Outgoing, memory_reply, write_refusal, write_reply};
@@ -29,7 +30,13 @@ pub enum Ran {
 }
 
 /// Asks the desk as the request's script goes, up to what it says.
-pub fn run_script<D: Desk>(alloc: Global, desk: &mut D, request: &Request, moment: u64) -> Ran
+pub fn run_script<D: Desk>(
+    alloc: Global,
+    desk: &mut D,
+    chunks: &Chunks,
+    request: &Request,
+    moment: u64,
+) -> Ran
     requires { Fits request.now }
     ensures caller { D.caller desk.new ≡ D.caller desk.old }
     ensures goes_on { GoesOn (D.caller desk.old) (D.seen desk.old) (D.mine desk.old) (D.seen desk.new) (D.mine desk.new) }
@@ -38,7 +45,7 @@ pub fn run_script<D: Desk>(alloc: Global, desk: &mut D, request: &Request, momen
     let mut answers = Vec::new(alloc);
     for _ in 0..MOVES {
         let stepped = !answers.is_empty();
-        match next(alloc, request, &answers) {
+        match next(alloc, request, &answers, chunks) {
             Err(_) => return Ran::Wanting { stepped },
             Ok(Move::Say(reply)) => return Ran::Said { reply, stepped },
             Ok(Move::Ask { shard, command }) => match desk.call(shard, moment, command) {
@@ -63,6 +70,7 @@ pub fn run_script<D: Desk>(alloc: Global, desk: &mut D, request: &Request, momen
 pub fn respond<C: Clock, D: Desk>(
     alloc: Global,
     desk: &mut D,
+    chunks: &Chunks,
     clock: &mut C,
     coming: Coming,
 ) -> Outgoing
@@ -91,7 +99,7 @@ pub fn respond<C: Clock, D: Desk>(
         Err(_) => memory_reply(form, false),
         Ok(Asked::Refused(reason)) => refuse(alloc, form, &reason),
         Ok(Asked::Asks(request)) => {
-            let outgoing = answer(alloc, desk, &request, moment, form);
+            let outgoing = answer(alloc, desk, chunks, &request, moment, form);
             drop(request);
             outgoing
         }
@@ -112,6 +120,7 @@ fn refuse(alloc: Global, form: Form, reason: &Reason) -> Outgoing
 fn answer<D: Desk>(
     alloc: Global,
     desk: &mut D,
+    chunks: &Chunks,
     request: &Request,
     moment: u64,
     form: Form,
@@ -121,7 +130,7 @@ fn answer<D: Desk>(
     ensures goes_on { GoesOn (D.caller desk.old) (D.seen desk.old) (D.mine desk.old) (D.seen desk.new) (D.mine desk.new) }
     ensures said { IsAnswered form request.now moment (D.seen desk.new) (D.caller desk.old) (lengths (D.mine desk.old)) (outgoing_bytes result) (lengths (D.mine desk.new)) }
 {
-    match run_script(alloc, desk, request, moment) {
+    match run_script(alloc, desk, chunks, request, moment) {
         Ran::Wanting { stepped } => memory_reply(form, stepped),
         Ran::Said { reply, stepped } => {
             let outgoing = write_reply(alloc, form, request, &reply);

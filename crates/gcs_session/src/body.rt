@@ -4,9 +4,10 @@ ghost use Rattle.gcs_meaning.specs.Desk.{AreUnmoved};
 ghost use Rattle.gcs_request.specs.declared.heading.HeadPart.{HeadPart};
 ghost use Rattle.gcs_request.specs.Bodies.{IsCome};
 ghost use Rattle.gcs_request.specs.Heading.{IsSeekable};
-ghost use Rattle.gcs_session.specs.Bodies.{part_in, AreReadIf, IsGathered, IsHeldIf, IsTextIf};
+ghost use Rattle.gcs_session.specs.Bodies.{part_in, AreReadIf, IsGathered, IsHashingIf, IsHeldIf, IsTextIf};
 
 use crate::bounded::{Bounded, TextFault};
+use crate::hashing::Hashing;
 use crate::kept::Kept;
 use crate::two_parts::TwoParts;
 use gcs_meaning::Desk;
@@ -18,7 +19,9 @@ use std::alloc::{AllocError, Global};
 pub enum Body {
     PassedOver,
     /// What is kept of a content. `None`: memory lacked for it. What was kept is given up, and the rest is passed over.
-    Content(Option<Kept>),
+    Content(Option<Hashing>),
+    /// What is kept of a piece of an upload, as of a content. Its bytes are not digested.
+    Piece(Option<Kept>),
     /// What is gathered of a text. `Err`: it is too long, or memory lacked for it, and the rest is passed over.
     Text(Result<Bounded, TextFault>),
     /// What is read of two parts. `None`: memory lacked for it, and the rest is passed over.
@@ -44,8 +47,11 @@ impl Body {
     {
         match part {
             HeadPart::Nothing | HeadPart::Read { .. } => Body::PassedOver,
-            HeadPart::Whole { .. } => Body::Content(Some(Kept::new(alloc))),
-            HeadPart::Json { .. } => Body::Text(Ok(Bounded::new(alloc, most))),
+            HeadPart::Whole { .. } => Body::Content(Some(Hashing::new(alloc))),
+            HeadPart::Piece { .. } => Body::Piece(Some(Kept::new(alloc))),
+            HeadPart::Json { .. } | HeadPart::Begin { .. } => {
+                Body::Text(Ok(Bounded::new(alloc, most)))
+            }
             HeadPart::Parts { boundary, .. } => {
                 Body::Parts(TwoParts::new(alloc, boundary.as_slice(), most).ok())
             }
@@ -60,7 +66,8 @@ impl Body {
     {
         match self {
             Body::PassedOver => {}
-            Body::Content(content) => keep_more(desk, content, piece),
+            Body::Content(content) => hash_more(desk, content, piece),
+            Body::Piece(kept) => keep_more(desk, kept, piece),
             Body::Text(text) => gather_more(text, piece),
             Body::Parts(parts) => read_more(desk, parts, piece),
         }
@@ -75,28 +82,44 @@ impl Body {
     {
         match self {
             Body::PassedOver => Ok(Come::PassedOver),
-            Body::Content(Some(kept)) => Ok(Come::Content(kept.finish(desk)?)),
+            Body::Content(Some(content)) => Ok(Come::Content(content.finish(desk)?)),
+            Body::Piece(Some(kept)) => Ok(Come::Piece(kept.finish(desk)?)),
             Body::Text(Ok(text)) => Ok(Come::Text(text.into_bytes())),
             Body::Text(Err(TextFault::TooLong)) => Ok(Come::TooLong),
             Body::Parts(Some(parts)) => parts.finish(desk),
-            Body::Content(None) | Body::Text(Err(TextFault::NoMemory)) | Body::Parts(None) => {
-                Err(AllocError)
-            }
+            Body::Content(None)
+            | Body::Piece(None)
+            | Body::Text(Err(TextFault::NoMemory))
+            | Body::Parts(None) => Err(AllocError),
         }
     }
 }
 
 // Keeps more bytes of a content, if memory did not lack yet.
-fn keep_more<D: Desk>(desk: &mut D, content: &mut Option<Kept>, piece: &[u8])
-    ensures held { (bytes : List ℕ) → IsHeldIf content.old bytes → IsHeldIf content.new (bytes ++ piece.now) }
+fn hash_more<D: Desk>(desk: &mut D, content: &mut Option<Hashing>, piece: &[u8])
+    ensures held { (bytes : List ℕ) → IsHashingIf content.old bytes → IsHashingIf content.new (bytes ++ piece.now) }
     ensures caller { D.caller desk.new ≡ D.caller desk.old }
     ensures lists { AreUnmoved (D.seen desk.old) (D.mine desk.old) (D.seen desk.new) (D.mine desk.new) }
 {
-    let Some(kept) = content else {
+    let Some(hashing) = content else {
         return;
     };
-    if kept.keep(desk, piece).is_err() {
+    if hashing.keep(desk, piece).is_err() {
         *content = None;
+    }
+}
+
+// Keeps more bytes of a piece, if memory did not lack yet.
+fn keep_more<D: Desk>(desk: &mut D, kept: &mut Option<Kept>, piece: &[u8])
+    ensures held { (bytes : List ℕ) → IsHeldIf kept.old bytes → IsHeldIf kept.new (bytes ++ piece.now) }
+    ensures caller { D.caller desk.new ≡ D.caller desk.old }
+    ensures lists { AreUnmoved (D.seen desk.old) (D.mine desk.old) (D.seen desk.new) (D.mine desk.new) }
+{
+    let Some(content) = kept else {
+        return;
+    };
+    if content.keep(desk, piece).is_err() {
+        *kept = None;
     }
 }
 

@@ -1,24 +1,21 @@
 //! A content while it comes.
-ghost use Rattle.std.specs.Prelude.{◌≡◌, ◌≤◌, ◌+◌, ◌++◌, ℕ, List, [], length, true, IfOk, OnOk};
+ghost use Rattle.std.specs.Prelude.{◌≡◌, ◌≤◌, ◌+◌, ◌++◌, ℕ, List, [], length, IfOk, OnOk};
 ghost use Rattle.gcs_chunks.specs.Content.{bytes_of};
-ghost use Rattle.gcs_meaning.specs.Content.{bytes_in};
 ghost use Rattle.gcs_meaning.specs.Desk.{AreUnmoved};
 ghost use Rattle.gcs_session.specs.Holding.{IsHeld};
 
 use crate::filling::Filling;
 use gcs_chunks::Content;
-use gcs_crc::Digests;
-use gcs_meaning::{Desk, Hashed, List};
+use gcs_meaning::{Desk, List};
 use std::alloc::{AllocError, Global};
 
 /// The limit on bodies keeps every content far below so many bytes.
 const ROOM: u64 = 1 << 62;
 
-/// What has come of a content: pieces that are published, their digests, and the bytes that will be the next piece.
+/// What has come of a content: pieces that are published, and the bytes that will be the next piece.
 #[derive(Drop)]
 pub struct Kept {
     content: Content,
-    digests: Digests,
     filling: Filling,
 }
 
@@ -29,7 +26,6 @@ impl Kept {
     {
         Kept {
             content: Content::empty(alloc),
-            digests: Digests::new(),
             filling: Filling::new(alloc),
         }
     }
@@ -56,31 +52,27 @@ impl Kept {
         ensures caller { D.caller desk.new ≡ D.caller desk.old }
         ensures lists { AreUnmoved (D.seen desk.old) (D.mine desk.old) (D.seen desk.new) (D.mine desk.new) }
     {
-        self.digests.update(part);
         match self.filling.add(part)? {
             None => Ok(()),
             Some(piece) => publish(desk, &mut self.content, piece),
         }
     }
 
-    /// The content with its digests. `Err`: no memory for its last piece.
-    pub fn finish<D: Desk>(self, desk: &mut D) -> Result<Hashed, AllocError>
-        requires { (bytes : List ℕ) × IsHeld self bytes }
-        ensures bytes { IfOk result (λ hashed. (bytes : List ℕ) → IsHeld self bytes → bytes_in hashed ≡ bytes) }
-        ensures md5 { IfOk result (λ hashed. hashed.with_md5 ≡ true) }
+    /// The content. `Err`: no memory for its last piece.
+    pub fn finish<D: Desk>(self, desk: &mut D) -> Result<Content, AllocError>
+        ensures bytes { IfOk result (λ content. (bytes : List ℕ) → IsHeld self bytes → bytes_of content ≡ bytes) }
         ensures caller { D.caller desk.new ≡ D.caller desk.old }
         ensures lists { AreUnmoved (D.seen desk.old) (D.mine desk.old) (D.seen desk.new) (D.mine desk.new) }
     {
         let Kept {
             mut content,
-            digests,
             mut filling,
         } = self;
         let last = filling.take();
         if !last.is_empty() {
             publish(desk, &mut content, last)?;
         }
-        Ok(Hashed::with(content, digests))
+        Ok(content)
     }
 }
 

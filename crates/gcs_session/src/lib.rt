@@ -8,6 +8,7 @@ mod coming;
 mod connection;
 mod ends;
 mod filling;
+mod hashing;
 mod kept;
 mod session;
 mod two_parts;

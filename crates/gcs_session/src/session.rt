@@ -91,7 +91,7 @@ impl Session {
     pub fn feed<C: Clock, D: Desk>(
         &mut self,
         desk: &mut D,
-        _chunks: &Chunks,
+        chunks: &Chunks,
         clock: &mut C,
         piece: &[u8],
     ) -> Fed
@@ -118,7 +118,7 @@ impl Session {
                 want: Want::More,
             },
             Event::End => {
-                self.answer(desk, clock);
+                self.answer(desk, chunks, clock);
                 Fed {
                     taken,
                     want: Want::Drain,
@@ -229,7 +229,7 @@ impl Session {
     }
 
     // Answers the message under way, which is whole.
-    fn answer<C: Clock, D: Desk>(&mut self, desk: &mut D, clock: &mut C)
+    fn answer<C: Clock, D: Desk>(&mut self, desk: &mut D, chunks: &Chunks, clock: &mut C)
         requires { (head : Head) × (content : List ℕ) × (keeps : Bool) × IsWholeIn (limits_in self.old) head content keeps self.old.coming }
         ensures framer { self.new.framer ≡ self.old.framer }
         ensures answered { (head : Head) (content : List ℕ) (keeps : Bool) → IsWholeIn (limits_in self.old) head content keeps self.old.coming
@@ -243,7 +243,7 @@ impl Session {
             return;
         };
         self.closed = coming.form.closes();
-        self.unsent = Unsent::new(respond(self.alloc, desk, clock, coming));
+        self.unsent = Unsent::new(respond(self.alloc, desk, chunks, clock, coming));
     }
 
     // Refuses a message by its framing.

@@ -9,7 +9,7 @@ ghost use Rattle.gcs_request.specs.Bodies.{IsCome};
 ghost use Rattle.gcs_session.specs.TwoParts.{AreKept, AreRead};
 
 use crate::bounded::{Bounded, TextFault};
-use crate::kept::Kept;
+use crate::hashing::Hashing;
 use gcs_meaning::{Desk, Text};
 use gcs_multipart::{PartTaken, Parts};
 use gcs_request::{Come, text_of_field};
@@ -27,7 +27,7 @@ pub enum PartsKept {
     Two {
         text: Bounded,
         kind: Option<Text>,
-        content: Kept,
+        content: Hashing,
     },
     /// The first part is too long for a text, whatever follows it.
     TooLong,
@@ -161,7 +161,7 @@ impl PartsKept {
                 Ok(kind) => Ok(PartsKept::Two {
                     text,
                     kind,
-                    content: Kept::new(alloc),
+                    content: Hashing::new(alloc),
                 }),
                 Err(error) => {
                     drop(text);

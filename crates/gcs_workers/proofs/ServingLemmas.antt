@@ -1,5 +1,5 @@
 -- One more connection.
-use Rattle.std.proofs.Common.{◌≡◌, ℕ, List, [], ◌∷◌, ◌++◌, map, Option, subst, sym, refl, ap, append-nil}
+use Rattle.std.proofs.Common.{◌≡◌, ℕ, List, [], ◌∷◌, ◌++◌, map, Option, subst, sym, refl, ap}
 use Rattle.gcs_io.specs.Told.{Loses}
 use Rattle.gcs_http_in.specs.declared.limits.Limits.{Limits}
 use Rattle.gcs_meaning.specs.Desk.{Histories}
@@ -37,9 +37,3 @@ done-more limits caller left mids left' c saw own mid mine saw' own' x l s = (
   subst (Loses left left') (sym (firsts-more x.0 c)) (loses-trans left mids left' (map first_of x.0) (first_of c ∷ []) x.1 l),
   served-more limits caller x.0 c saw own mid mine saw' own' x.2 s,
 )
-
--- nothing more was handed out
-pub done-still : (limits : Limits) (caller : ℕ) (left mids left' : Option (List Told)) (saw own saw' own' : Histories)
-    → AreDone limits caller left mids saw own saw' own' → Loses mids left' [] → AreDone limits caller left left' saw own saw' own'
-done-still limits caller left mids left' saw own saw' own' x l =
-    (x.0, subst (Loses left left') (append-nil (map first_of x.0)) (loses-trans left mids left' (map first_of x.0) [] x.1 l), x.2)

@@ -2,22 +2,27 @@
 use Rattle.std.proofs.Common.{◌≡◌, ◌≤◌, ◌∙◌, ℕ, List, Bool, true, Some, Result, Ok, Err, length, subst, sym}
 use Rattle.std.specs.Prelude.{IfOk}
 use Rattle.std.proofs.lemmas.Result.{IfErr-weaker, IfOk-weaker}
+use Rattle.gcs_chunks.specs.Content.{bytes_of, Whole}
 use Rattle.gcs_http_in.specs.Head.{Head}
 use Rattle.gcs_route.specs.declared.call.Call.{Call}
 use Rattle.gcs_route.specs.declared.kind.RequestKind.{RequestKind}
+use Rattle.gcs_route.specs.declared.kind.RequestKind.TheVariants.{UploadPiece}
 use Rattle.gcs_route.specs.OfCall.{request_kind}
 use Rattle.gcs_rewrite.specs.declared.request.Given.{Given}
-use Rattle.gcs_rewrite.specs.declared.request.Given.TheVariants.{Whole}
+use Rattle.gcs_rewrite.specs.declared.request.Given.TheVariants as given
 use Rattle.gcs_rewrite.specs.Fits.{Fits, IsGivenInLimits, IsGivenOn}
 use Rattle.gcs_request.specs.declared.heading.HeadPart.{HeadPart}
-use Rattle.gcs_request.specs.declared.heading.HeadPart.TheVariants.{Json}
+use Rattle.gcs_request.specs.declared.heading.HeadPart.TheVariants.{Json, Piece}
 use Rattle.gcs_request.specs.declared.heading.Heading.TheVariants.{Asks}
+use Rattle.gcs_request.specs.declared.bodies.Come.{Come}
+use Rattle.gcs_request.specs.declared.bodies.Come.TheVariants as come
+use Rattle.gcs_request.specs.declared.piece_ranges.PieceRange.{PieceRange}
 use Rattle.gcs_request.specs.declared.json_bodies.GivenFault.{GivenFault}
 use Rattle.gcs_request.specs.Bodies.{IsCome}
 use Rattle.gcs_request.specs.Heading.{IsHeading}
 use Rattle.gcs_request.specs.JsonBodies.{brings_json, json_refusal}
 use Rattle.gcs_request.specs.Requests.{IsBodyFault, IsGiven}
-use Rattle.gcs_request.proofs.Fitting.{fits_json, fits_nothing, fits_read, fits_whole}
+use Rattle.gcs_request.proofs.Fitting.{fits_json, fits_nothing, fits_piece, fits_read, fits_whole}
 use Rattle.gcs_request.proofs.requests.given_of.Goals as goal
 
 -- what is read of a JSON body fits the call
@@ -29,6 +34,19 @@ json_fits call part encoded kind (Ok given) is same fit limits = λ head heading
     (subst (λ k. (it : Call) → brings_json k ≡ true → IsGivenOn k it given) same fit) limits
 json_fits call part encoded kind (Err fault) is same fit limits = tt
 
+-- a piece that comes has these bytes
+piece_come : (most : ℕ) (bytes : List ℕ) (part : HeadPart) (range : PieceRange) (body : Come) (content : Whole) → part ≡ Piece range → body ≡ come.Piece content
+    → IsCome most part bytes body → bytes_of content ≡ bytes
+piece_come most bytes part range body content part_is body_is come =
+    subst (IsCome most (Piece range) bytes) body_is (subst (λ p. IsCome most p bytes body) part_is come)
+
+-- what is given of a piece fits the call
+piece_fits : (call : Call) (part : HeadPart) (range : PieceRange) (made : Result Given GivenFault) → part ≡ Piece range
+    → IfOk made (λ given. (it : Call) → IsGivenOn UploadPiece it given) → IfOk made (λ given. IsGivenInLimits given)
+    → IfOk made (λ given. (head : Head) → IsHeading head (Asks call part) → Fits (record { call = call; given = given }))
+piece_fits call part range (Ok given) is fit limits = λ head heading. fits_piece head call range given (subst (λ p. IsHeading head (Asks call p)) is heading) (fit call) limits
+piece_fits call part range (Err fault) is fit limits = tt
+
 pub returns-in-Nothing-clause-fits : goal.returns-in-Nothing-clause-fits
 returns-in-Nothing-clause-fits c = λ head is.
     fits_nothing head c.args.call.now (subst (λ part. IsHeading head (Asks c.args.call.now part)) c.in-Nothing.is is)
@@ -39,7 +57,7 @@ returns-in-Read-clause-fits c = λ head is.
 
 pub returns-in-Content-clause-fits : goal.returns-in-Content-clause-fits
 returns-in-Content-clause-fits c = λ head is.
-    subst (λ body. Fits (record { call = c.args.call.now; given = Whole body c.in-Whole.kind c.in-Content.hashed })) (sym c.says_nothing.ensures)
+    subst (λ body. Fits (record { call = c.args.call.now; given = given.Whole body c.in-Whole.kind c.in-Content.hashed })) (sym c.says_nothing.ensures)
     (fits_whole head c.args.call.now c.in-Whole.kind c.in-Content.hashed (subst (λ part. IsHeading head (Asks c.args.call.now part)) c.in-Whole.is is))
 
 pub returns-in-Text-clause-fits : goal.returns-in-Text-clause-fits
@@ -78,3 +96,41 @@ returns-in-Parts-clause-fits c =
     IfOk-weaker c.given_of_parts.result _ _
     (λ given fits head is. fits head c.in-Parts.boundary (subst (λ part. IsHeading head (Asks c.args.call.now part)) c.in-Parts.is is))
     c.given_of_parts.ensures.fits
+
+pub returns-in-Begin-clause-given : goal.returns-in-Begin-clause-given
+returns-in-Begin-clause-given c =
+    IfOk-weaker c.given_of_begin.result _ _
+    (λ given is most bytes come. subst (λ part. IsGiven most c.args.call.now part bytes given) (sym c.in-Begin.is)
+    (is most bytes (subst (λ part. IsCome most part bytes c.args.body) c.in-Begin.is come)))
+    c.given_of_begin.ensures.given
+
+pub returns-in-Begin-clause-refused : goal.returns-in-Begin-clause-refused
+returns-in-Begin-clause-refused c =
+    IfErr-weaker c.given_of_begin.result _ _
+    (λ fault refused reason is most bytes come. subst (λ part. IsBodyFault most c.args.call.now part bytes reason) (sym c.in-Begin.is)
+    (refused reason is most bytes (subst (λ part. IsCome most part bytes c.args.body) c.in-Begin.is come)))
+    c.given_of_begin.ensures.refused
+
+pub returns-in-Begin-clause-fits : goal.returns-in-Begin-clause-fits
+returns-in-Begin-clause-fits c =
+    IfOk-weaker c.given_of_begin.result _ _
+    (λ given fits head is. fits head (subst (λ part. IsHeading head (Asks c.args.call.now part)) c.in-Begin.is is))
+    c.given_of_begin.ensures.fits
+
+pub returns-in-Piece-body-clause-given : goal.returns-in-Piece-body-clause-given
+returns-in-Piece-body-clause-given c =
+    IfOk-weaker c.given_of_piece.result _ _
+    (λ given is most bytes come. subst (λ part. IsGiven most c.args.call.now part bytes given) (sym c.in-Piece.is)
+    (is most c.args.call.now bytes (piece_come most bytes c.args.part c.in-Piece.range c.args.body c.in-Piece-body.content c.in-Piece.is c.in-Piece-body.is come)))
+    c.given_of_piece.ensures.given
+
+pub returns-in-Piece-body-clause-refused : goal.returns-in-Piece-body-clause-refused
+returns-in-Piece-body-clause-refused c =
+    IfErr-weaker c.given_of_piece.result _ _
+    (λ fault refused reason is most bytes come. subst (λ part. IsBodyFault most c.args.call.now part bytes reason) (sym c.in-Piece.is)
+    (refused reason is most c.args.call.now bytes (piece_come most bytes c.args.part c.in-Piece.range c.args.body c.in-Piece-body.content c.in-Piece.is c.in-Piece-body.is come)))
+    c.given_of_piece.ensures.refused
+
+pub returns-in-Piece-body-clause-fits : goal.returns-in-Piece-body-clause-fits
+returns-in-Piece-body-clause-fits c =
+    piece_fits c.args.call.now c.args.part c.in-Piece.range c.given_of_piece.result c.in-Piece.is c.given_of_piece.ensures.fits c.given_of_piece.ensures.limits

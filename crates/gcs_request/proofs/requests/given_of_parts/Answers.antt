@@ -2,7 +2,8 @@
 use Rattle.std.proofs.Common.{◌≡◌, ◌∙◌, ℕ, List, Bool, inr, subst, sym}
 use Rattle.gcs_request.specs.declared.heading.HeadPart.TheVariants.{Parts}
 use Rattle.gcs_request.specs.Bodies.{IsCome}
-use Rattle.gcs_request.specs.Parts.{IsJsonFault, IsPartsFault, IsTwo}
+use Rattle.gcs_request.specs.Parts.{IsPartsFault, IsTwo}
+use Rattle.gcs_request.specs.UploadJson.{IsJsonFault}
 use Rattle.gcs_request.proofs.Fitting.{fits_parts}
 use Rattle.gcs_request.proofs.requests.given_of_parts.Goals as goal
 

@@ -1,6 +1,6 @@
 use Rattle.std.specs.declared.num.ParseIntError.{ParseIntError}
-use Rattle.std.proofs.Common.{◌≡◌, ◌<◌, ◌∙◌, sym, subst, ℕ, decimal, IsUtf8, List}
-use Rattle.std.specs.Prelude.{◌^◌, Ok}
+use Rattle.std.proofs.Common.{◌∙◌, sym, subst, decimal, IsUtf8}
+use Rattle.std.specs.Prelude.{Ok}
 use Rattle.std.proofs.lemmas.Fmt.{IsAscii-decimal}
 use Rattle.std.proofs.lemmas.Str.{IsUtf8-from_ascii}
 use Rattle.gcs_listing.proofs.TokenLemmas.{not_failed, parsed}

@@ -1,11 +1,9 @@
-use Rattle.std.proofs.Common.{◌≡◌, ◌∙◌, ap, sym, subst, map, Err}
-use Rattle.std.specs.Str.{bytes_eq}
+use Rattle.std.proofs.Common.{◌≡◌, ◌∙◌, ap, sym, map}
 use Rattle.std.proofs.lemmas.Result.{err_from_is_err_and}
-use Rattle.gcs_meaning.specs.declared.rewriting.RewriteToken.{RewriteToken}
 use Rattle.gcs_listing.proofs.OrderLemmas.{apart}
 use Rattle.gcs_listing.proofs.SeekLemmas.{bytes_eq_from}
 use Rattle.gcs_listing.proofs.UnitLemmas.{bytes_same}
-use Rattle.gcs_rewrite.specs.Tokens.{lines_of, rewrite_token, HasRewriteToken}
+use Rattle.gcs_rewrite.specs.Tokens.{lines_of, rewrite_token}
 use Rattle.gcs_rewrite.proofs.RewriteTokens.{decoded_not, lines_are, read_is, tells_none}
 use Rattle.gcs_rewrite.proofs.tokens.read_rewrite.Goals as goal
 

@@ -1,8 +1,7 @@
-use Rattle.std.proofs.Common.{◌≡◌, ◌<◌, ◌∙◌, sym, ℕ, Ok, List, map, length, get_or, Bor, ap, arith, ltb-true, ltb-false}
-use Rattle.std.specs.Prelude.{◌^◌, Result}
+use Rattle.std.proofs.Common.{◌≡◌, ◌∙◌, sym, ℕ, Ok, List, map, length, get_or, Bor, ap, arith, ltb-true, ltb-false}
+use Rattle.std.specs.Prelude.{Result}
 use Rattle.std.proofs.lemmas.List.{length-map}
-use Rattle.gcs_meaning.specs.declared.rewriting.RewriteToken.{RewriteToken}
-use Rattle.gcs_rewrite.specs.Tokens.{token_lines, HasRewriteToken}
+use Rattle.gcs_rewrite.specs.Tokens.{token_lines}
 use Rattle.gcs_rewrite.proofs.Lines.{line_at}
 use Rattle.gcs_rewrite.proofs.tokens.token_in.Goals.{in_default-via-then-lines-lt6, in_default-via-else-lines-lt6+else-lines-lt7}
 use Rattle.gcs_rewrite.proofs.tokens.token_in.Goals as goal

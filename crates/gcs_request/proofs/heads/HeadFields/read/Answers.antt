@@ -17,4 +17,8 @@ returns c = λ bytes messages it stands. record {
   content_type = field_copied _ _ (c.field-2.ensures bytes messages it stands);
   content_encoding = field_copied _ _ (c.field-3.ensures bytes messages it stands);
   range = field_copied _ _ (c.field-4.ensures bytes messages it stands);
+  content_range = field_copied _ _ (c.field-5.ensures bytes messages it stands);
+  upload_type = field_copied _ _ (c.field-6.ensures bytes messages it stands);
+  upload_length = field_copied _ _ (c.field-7.ensures bytes messages it stands);
+  host = field_copied _ _ (c.field-8.ensures bytes messages it stands);
 }

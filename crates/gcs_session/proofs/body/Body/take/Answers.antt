@@ -1,7 +1,7 @@
 -- More bytes of each kind of body.
 use Rattle.std.proofs.Common.{ℕ, List, ◌++◌, subst, sym}
 use Rattle.gcs_session.specs.Bodies.{IsGathered}
-use Rattle.gcs_session.proofs.Gathered.{content-more, parts-more, passed-more, text-more}
+use Rattle.gcs_session.proofs.Gathered.{content-more, parts-more, passed-more, piece-more, text-more}
 use Rattle.gcs_session.proofs.body.Body.take.Goals as goal
 
 pub returns-in-PassedOver-clause-gathered : goal.returns-in-PassedOver-clause-gathered
@@ -11,7 +11,11 @@ returns-in-PassedOver-clause-gathered g c = λ most part bytes come.
 
 pub returns-in-Content-clause-gathered : goal.returns-in-Content-clause-gathered
 returns-in-Content-clause-gathered g c = λ most part bytes come.
-    content-more most part _ _ bytes _ (c.keep_more.ensures.held bytes) (subst (λ body. IsGathered most part body bytes) c.in-Content.is come)
+    content-more most part _ _ bytes _ (c.hash_more.ensures.held bytes) (subst (λ body. IsGathered most part body bytes) c.in-Content.is come)
+
+pub returns-in-Piece-clause-gathered : goal.returns-in-Piece-clause-gathered
+returns-in-Piece-clause-gathered g c = λ most part bytes come.
+    piece-more most part _ _ bytes _ (c.keep_more.ensures.held bytes) (subst (λ body. IsGathered most part body bytes) c.in-Piece.is come)
 
 pub returns-in-Text-clause-gathered : goal.returns-in-Text-clause-gathered
 returns-in-Text-clause-gathered g c = λ most part bytes come.

@@ -5,7 +5,4 @@ use Rattle.gcs_chunks.proofs.Words.{bytes_of-no_content}
 use Rattle.gcs_session.proofs.kept.Kept.new.Goals as goal
 
 pub returns : goal.returns
-returns c = record {
-  bytes_are = sym (ap₂ (λ a b. a ++ b) (ap bytes_of c.empty.ensures ∙ bytes_of-no_content) c.new-2.ensures);
-  digested = c.new.ensures;
-}
+returns c = sym (ap₂ (λ a b. a ++ b) (ap bytes_of c.empty.ensures ∙ bytes_of-no_content) c.new.ensures)

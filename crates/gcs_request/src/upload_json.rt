@@ -1,7 +1,7 @@
-//! What uploads give whose body has two parts.
+//! What the JSON of an upload says of its object.
 ghost use Rattle.std.specs.Prelude.{◌≡◌, IfOk, IfErr, OnOk};
 ghost use Rattle.gcs_names.specs.Name.{IsObjectName};
-ghost use Rattle.gcs_request.specs.Parts.{IsJsonFault, IsNamed, IsNameFault, IsSaidOf};
+ghost use Rattle.gcs_request.specs.UploadJson.{IsJsonFault, IsNamed, IsNameFault, IsSaidOf};
 
 use crate::json_bodies::{GivenFault, fault_of, invalid};
 use gcs_json::{ObjectBody, read_object_body};

@@ -1,7 +1,7 @@
 use Rattle.std.proofs.Common.{◌≡◌, ℕ, ◌+◌, ◌-◌, List, Option, Some, length, take, drop, ap, ◌∙◌, sym, arith}
 use Rattle.std.proofs.lemmas.List.{length-drop, take_all}
 use Rattle.std.specs.Option.{option_map}
-use Rattle.gcs_request.proofs.ranges.around_dash.Goals as goal
+use Rattle.gcs_request.proofs.ranges.around.Goals as goal
 
 -- what is left of a text is taken whole
 rest-whole : (l : List ℕ) (n : ℕ) → take (length l - n) (drop n l) ≡ drop n l
