@@ -9,15 +9,19 @@ use std::alloc::Global;
 /// The longest input that is cut at every place.
 const LONGEST_CUT: usize = 2_000;
 
+/// The longest input that is served a byte at a time.
+const LONGEST_BY_BYTES: usize = 4_000_000;
+
 /// Serves the row by each course, each over a store of its own. `Err`: the first thing that is not as it must be.
 pub fn try_row(alloc: Global, row: &Row<'_>) -> Result<(), Failure> {
     if let Some(number) = row.bad_line {
         return Err(Failure::BadLine(number));
     }
-    for course in [Course::Whole, Course::Pieces(1), Course::Pieces(SHORT)] {
-        try_course(alloc, row, course)?;
-    }
     let longest = row.longest_input();
+    try_course(alloc, row, Course::Whole)?;
+    for size in piece_sizes(longest) {
+        try_course(alloc, row, Course::Pieces(size))?;
+    }
     let is_short = longest <= LONGEST_CUT;
     if is_short {
         for place in 1..longest {
@@ -35,6 +39,15 @@ pub fn try_row(alloc: Global, row: &Row<'_>) -> Result<(), Failure> {
         try_room(alloc, row, connection)?;
     }
     Ok(())
+}
+
+// The sizes of the pieces in which an input of that length is served; long ones come in larger pieces, to spare time.
+fn piece_sizes(longest: usize) -> [usize; 2] {
+    if longest <= LONGEST_BY_BYTES {
+        [1, SHORT]
+    } else {
+        [1_021, 65_537]
+    }
 }
 
 // Each connection writes what it must and ends as it must.
