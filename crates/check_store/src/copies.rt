@@ -10,9 +10,9 @@ use gcs_bucket::Shard;
 use gcs_chunks::{Chunks, Content, Piece};
 use gcs_meaning::{
     BucketName, BucketRow, Copied, DEFAULT_CLASS, DEFAULT_SOFT_SECONDS, Expect, Hashed, Kind, List,
-    Name, Pairs, Pre, Reason, Row, Settings, Steps, Text, Unit, Upload, UploadState,
+    Name, Pairs, Pre, Reason, Row, Settings, Text, Unit, Upload, UploadState,
 };
-use gcs_versions::Versions;
+use gcs_versions::{Steps, Versions};
 use std::alloc::{AllocError, Global};
 use std::marker::Brand;
 use std::sync::ledger::{Blank, Ledger};
