@@ -271,3 +271,8 @@ module _ {K V : Type 0} {cmp : K → K → Ordering} (o : IsTotalOrder cmp) wher
       by same false e =
           let rest = sym (ap (λ t. cond t (Some x) (find (λ (y : Entry K V). is_eq (cmp key y.key)) xs)) e) ∙ none in
           ap (λ l. x ∷ l) (same rest) ∙ sym (stays key x xs e)
+
+-- the first item, and the others
+pub first_taken : {X : Type 0} (xs : List X) (x : X) → slice_get xs 0 ≡ Some x → xs ≡ x ∷ remove xs 0
+first_taken [] x first = absurd (cc)
+first_taken (y ∷ xs) x first = ap (λ z. z ∷ xs) (cc)

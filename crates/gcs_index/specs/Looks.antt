@@ -25,3 +25,9 @@ more_searches a b n old between new first second s next =
 -- searches of fewer entries
 pub fewer_entries : (searches m n old new : ℕ) → m ≤ n → AreLooks searches m old new → AreLooks searches n old new
 fewer_entries searches m n old new fewer looks s next = looks s (omega arith)
+
+-- no more searches than so many
+pub fewer_searches : (a b n old new : ℕ) → a ≤ b → AreLooks a n old new → AreLooks b n old new
+fewer_searches a b n old new a≤b looks s next =
+    let product : a * s ≤ b * s = grind (arith, a≤b) in
+    omega (arith, looks s next, product)

@@ -1,5 +1,5 @@
 //! The index: values by their keys.
-ghost use Rattle.std.specs.Prelude.{◌≡◌, ◌≤◌, ◌<◌, ◌+◌, [], not, length, slice_get, ◌==◌, IfNone, IfOk, IfSome, None, OnErr, OnOk, Some};
+ghost use Rattle.std.specs.Prelude.{◌≡◌, ◌≤◌, ◌<◌, ◌+◌, [], ◌∷◌, not, length, slice_get, ◌==◌, IfNone, IfOk, IfSome, None, OnErr, OnOk, Some};
 ghost use Rattle.std.specs.List.{find};
 ghost use Rattle.std.specs.Option.{option_copied};
 ghost use Rattle.std.specs.Ordering.{is_eq, is_gt};
@@ -11,7 +11,7 @@ use crate::copying::copy_blocks;
 use crate::editing::{insert_at, keep};
 use crate::probe::Probe;
 use crate::removing::remove_at;
-use crate::seeking::{entry_in, find_in, last_in, seek_in, settled};
+use crate::seeking::{entry_in, find_in, first_in, last_in, seek_in, settled};
 use crate::steps::Steps;
 use std::alloc::{AllocError, Global};
 use std::marker::{Brand, Model};
@@ -138,6 +138,19 @@ impl<K: Ord + Drop, V: Drop> Index<K, V> {
         Some(entry.value)
     }
 
+    /// Takes the least key out, with its value. It takes no memory, and what stood ready still does.
+    pub fn pop_first(&mut self) -> Option<Entry<K, V>>
+        ensures some { IfSome result (λ first. self.old.entries ≡ first ∷ self.new.entries) }
+        ensures none { IfNone result (self.old.entries ≡ [] × self.new.entries ≡ []) }
+        ensures spare { self.old.spare ≤ self.new.spare }
+    {
+        if self.blocks.is_empty() {
+            return None;
+        }
+        let entry = remove_at(&mut self.blocks, &mut self.spare, 0, 0);
+        Some(entry)
+    }
+
     /// The value of the first key that equals the probe. Each look at a key is a step, and so is the finding that there are none.
     pub fn find<Q: Probe<K>, L: Ledger>(&self, key: &Q, steps: &mut Steps<L>) -> Option<&V>
         ensures found { option_copied result ≡ value_in (find (λ e. is_eq (Q.stands key.now e.key)) self.now.entries) }
@@ -182,6 +195,15 @@ impl<K: Ord + Drop, V: Drop> Index<K, V> {
             at: place.at + 1,
         };
         settled(blocks, behind)
+    }
+
+    /// The place of the least key. No key is looked at.
+    pub fn first(&self) -> Option<Place>
+        ensures good { IfSome result (IsGood self.now.sizes) }
+        ensures first { IfSome result (λ place. position self.now.sizes place ≡ 0) }
+        ensures none { IfNone result (self.now.entries ≡ []) }
+    {
+        first_in(self.blocks.as_slice())
     }
 
     /// The place of the greatest key. No key is looked at.

@@ -130,6 +130,20 @@ pub(crate) fn find_in<K: Ord, V, Q: Probe<K>, L: Ledger>(
     }
 }
 
+// The place of the first entry.
+pub(crate) fn first_in<K, V>(blocks: &[Block<K, V>]) -> Option<Place>
+    requires blocks { AreBlocks blocks.now }
+    ensures good { IfSome result (IsGood (sizes_of blocks.now)) }
+    ensures first { IfSome result (λ place. position (sizes_of blocks.now) place ≡ 0) }
+    ensures none { IfNone result (entries_of blocks.now ≡ []) }
+{
+    if blocks.is_empty() {
+        None
+    } else {
+        Some(Place { block: 0, at: 0 })
+    }
+}
+
 // The place of the last entry.
 pub(crate) fn last_in<K, V>(blocks: &[Block<K, V>]) -> Option<Place>
     requires blocks { AreBlocks blocks.now }
