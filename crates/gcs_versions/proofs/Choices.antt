@@ -5,15 +5,13 @@ use Rattle.std.specs.Str.{bytes_eq}
 use Rattle.std.specs.List.{AllByRecursion, find}
 use Rattle.std.proofs.lemmas.Bool.{and_from, and_parts, eqb-true}
 use Rattle.std.proofs.lemmas.Bool.Decides.{nat_tests}
-use Rattle.gcs_meaning.specs.declared.policy.Retired.{Retired}
-use Rattle.gcs_meaning.specs.declared.policy.Retired.TheVariants.{Noncurrent as ToNoncurrent, Soft as ToSoft, Out}
 use Rattle.gcs_meaning.specs.declared.version.Kind.{Kind}
 use Rattle.gcs_meaning.specs.declared.version.Kind.TheVariants.{Live, Noncurrent, Soft}
 use Rattle.gcs_meaning.specs.declared.version.Row.{Row}
 use Rattle.gcs_meaning.specs.Aging.{aged_rows, kind_stays}
-use Rattle.gcs_meaning.specs.Choosing.{chosen_row, is_chosen, is_live, is_live_of, is_readable, is_soft_chosen, live_row}
-use Rattle.gcs_meaning.specs.Order.{comes_before, place_of, AreSingle, Rise}
-use Rattle.gcs_meaning.specs.Retiring.{change_first, retired_row}
+use Rattle.gcs_meaning.specs.Choosing.{chosen_row, is_chosen, is_live, is_readable, is_soft_chosen}
+use Rattle.gcs_meaning.specs.Order.{comes_before, place_of, Rise}
+use Rattle.gcs_meaning.specs.Retiring.{change_first}
 use Rattle.gcs_meaning.proofs.Chosen.{all-find, asked_row-aged, finds_none, none_found}
 use Rattle.gcs_meaning.proofs.Listed.{all-weaker}
 use Rattle.gcs_versions.specs.Rows.{is_version}

@@ -1,5 +1,5 @@
 -- Rows stay a bucket's versions where one is added, changed, retired or aged away.
-use Rattle.std.proofs.Common.{◌≡◌, ◌≢◌, ◌≤◌, ◌<◌, ◌^◌, refl, subst, sym, ap, ℕ, Bool, false, List, [], ◌∷◌, None, length}
+use Rattle.std.proofs.Common.{◌≡◌, ◌≢◌, ◌≤◌, ◌<◌, ◌^◌, refl, subst, sym, ap, ℕ, Bool, false, List, [], ◌∷◌, None}
 use Rattle.std.specs.List.{AllByRecursion, find}
 use Rattle.gcs_meaning.specs.declared.listing.Unit as unit
 use Rattle.gcs_meaning.specs.declared.settings.Meta.{Meta}
@@ -14,7 +14,6 @@ use Rattle.gcs_meaning.proofs.Chosen.{none_found}
 use Rattle.gcs_meaning.proofs.Listed.{all-change_first, all-filter, all-weaker, all-with_row}
 use Rattle.gcs_meaning.proofs.Ordered.{IsLess, changed_rise, changed_single, filtered_rise, filtered_single, placed_rise, placed_single, retired_less}
 use Rattle.gcs_meaning.proofs.Orders.{apart}
-use Rattle.gcs_versions.specs.Kept.{Kept, IsReadyToPut, IsReadyToRetire}
 use Rattle.gcs_versions.specs.Rows.{changed_version, is_version}
 use Rattle.gcs_versions.proofs.Orders.{place_version}
 
@@ -57,12 +56,3 @@ placed_kept row rows absent none numbered kept = record {
   single = placed_single row rows none kept.single;
   numbered = all-with_row IsNumbered row rows numbered kept.numbered;
 }
-
--- ---- room, and no rows
-pub ready_to_put : (name : List ℕ) (kept : Kept) → length kept.rows < kept.capacity → IsReadyToPut name kept
-unfolding IsReadyToPut
-ready_to_put name kept room = room
-
-pub ready_to_retire : (name : List ℕ) (kept : Kept) → IsReadyToRetire name kept
-unfolding IsReadyToRetire
-ready_to_retire name kept = tt

@@ -1,5 +1,14 @@
 pub mod Orders
 pub mod Finding
-pub mod Changes
 pub mod Keeping
 pub mod Choices
+pub mod Entries
+pub mod Indexing
+pub mod RowsAt
+pub mod Due
+pub mod Putting
+pub mod Growing
+pub mod Dropping
+pub mod Seen
+pub mod Copying
+pub mod Retired

@@ -1,2 +1,5 @@
+pub mod Indexes
 pub mod Kept
+pub mod Keys
+pub mod Ready
 pub mod Rows

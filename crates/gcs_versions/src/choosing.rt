@@ -1,6 +1,7 @@
 //! Which version a request names.
-ghost use Rattle.std.specs.Prelude.{◌≡◌, ◌+◌, Some};
+ghost use Rattle.std.specs.Prelude.{◌≡◌, ◌≤◌, ◌+◌, Some, length};
 ghost use Rattle.std.specs.Option.{option_copied};
+ghost use Rattle.gcs_index.specs.Looks.{AreLooks};
 ghost use Rattle.gcs_meaning.specs.Choosing.{chosen_row};
 
 use crate::kinds::is_readable;
@@ -11,7 +12,7 @@ use std::sync::ledger::Ledger;
 
 impl Versions {
     /// The version that a request names: that of the generation unless it is soft-deleted, or without
-    /// a generation the live one. One step.
+    /// a generation the live one. One search.
     pub fn chosen<L: Ledger>(
         &self,
         name: &Name,
@@ -19,7 +20,8 @@ impl Versions {
         steps: &mut Steps<L>,
     ) -> Option<&Row>
         ensures found { option_copied result ≡ chosen_row name.now generation self.now.rows }
-        ensures cost { steps.new ≡ steps.old + 1 }
+        ensures some { steps.old + 1 ≤ steps.new }
+        ensures looks { AreLooks 1 (length self.now.rows) steps.old steps.new }
     {
         match generation {
             Some(generation) => self.readable(name, generation, steps),
@@ -35,7 +37,8 @@ impl Versions {
         steps: &mut Steps<L>,
     ) -> Option<&Row>
         ensures found { option_copied result ≡ chosen_row name.now (Some generation) self.now.rows }
-        ensures cost { steps.new ≡ steps.old + 1 }
+        ensures some { steps.old + 1 ≤ steps.new }
+        ensures looks { AreLooks 1 (length self.now.rows) steps.old steps.new }
     {
         self.known();
         let row = self.get(name, generation, steps)?;

@@ -2,9 +2,10 @@
 #![tactic(auto)]
 
 mod choosing;
+mod keys;
 mod kinds;
-mod places;
-mod rows;
+mod preparing;
+mod slots;
 mod versions;
 
 pub use gcs_index::Steps;

@@ -1,7 +1,7 @@
-use Rattle.std.proofs.Common.{sym, subst}
-use Rattle.gcs_meaning.specs.Order.{AreVersions}
-use Rattle.gcs_versions.proofs.Keeping.{aged_kept}
+use Rattle.std.proofs.Common.{◌∙◌, sym}
+use Rattle.gcs_versions.proofs.Due.{aged_still}
 use Rattle.gcs_versions.proofs.versions.Versions.age.Goals as goal
 
-pub invariant_of-self : goal.invariant_of-self
-invariant_of-self c = subst AreVersions (sym c.age_rows.ensures.items) (aged_kept c.args.moment _ c.self.invariant)
+pub returns-clause-rows : goal.returns-clause-rows
+returns-clause-rows c =
+    sym (aged_still c.args.moment c.loop-self.self.rows (sym c.has_due.ensures ∙ c.loop-self-test.false)) ∙ c.loop-self.invariant.rows
