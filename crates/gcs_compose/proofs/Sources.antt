@@ -1,14 +1,15 @@
 -- A compose, one source further.
-use Rattle.std.proofs.Common.{◌≡◌, ◌<◌, ℕ, suc, ◌+◌, List, ◌∷◌, length, get_or, drop, Option, Some, None, ap, sym, ◌∙◌, refl, add-one, drop-cons}
+use Rattle.std.proofs.Common.{◌≡◌, ◌<◌, ℕ, suc, ◌+◌, List, ◌∷◌, length, get_or, drop, Some, None, ap, sym, ◌∙◌, refl, arith, add-one, drop-cons}
 use Rattle.std.proofs.lemmas.List.{length-append}
 use Rattle.gcs_chunks.specs.Content.{Whole, bytes_of, rest_of}
 use Rattle.gcs_chunks.proofs.Words.{bytes_of-joined}
+use Rattle.gcs_index.specs.Looks.{AreLooks, fewer_searches, more_searches}
 use Rattle.gcs_meaning.specs.declared.version.Part.{Part}
 use Rattle.gcs_meaning.specs.declared.version.Row.{Row}
 use Rattle.gcs_meaning.specs.declared.reason.Reason.{Reason}
 use Rattle.gcs_meaning.specs.declared.reason.Reason.TheVariants.{NoSource}
 use Rattle.gcs_meaning.specs.Choosing.{chosen_row}
-use Rattle.gcs_meaning.specs.Compose.{Composed, components_of, composed_by, composed_from, lacks, source_refusal}
+use Rattle.gcs_meaning.specs.Compose.{components_of, composed_by, composed_from, lacks, source_refusal}
 use Rattle.gcs_meaning.specs.Content.{with_whole}
 use Rattle.gcs_meaning.proofs.Grown.{bytes_of-rest_of}
 
@@ -48,3 +49,7 @@ joined_length content more =
     ap length (bytes_of-joined content (rest_of more 0))
     ∙ length-append (bytes_of content) (bytes_of (rest_of more 0))
     ∙ ap (λ bytes. length (bytes_of content) + length bytes) (bytes_of-rest_of more 0)
+
+-- a search more, of at most so many
+pub one_more_search : (i most n old between new : ℕ) → i < most → AreLooks i n old between → AreLooks 1 n between new → AreLooks most n old new
+one_more_search i most n old between new within before one = fewer_searches (i + 1) most n old new (omega arith) (more_searches i 1 n old between new before one)

@@ -1,6 +1,5 @@
 -- How a fault tells what a compose lacks.
 use Rattle.std.specs.Prelude.{◌≡◌}
-use Rattle.gcs_meaning.specs.declared.reason.Reason.{Reason}
 use Rattle.gcs_meaning.specs.Compose.{Composed, lacks}
 use Rattle.gcs_compose.specs.declared.fault.ComposeFault.{ComposeFault}
 use Rattle.gcs_compose.specs.declared.fault.ComposeFault.TheVariants.{Refused, NoMemory}

@@ -2,6 +2,7 @@
 ghost use Rattle.std.specs.Prelude.{◌≡◌, ◌≤◌, ◌<◌, ◌+◌, ◌^◌, false, length, min, IfErr, IfOk, OnOk};
 ghost use Rattle.std.specs.List.{AllByRecursion};
 ghost use Rattle.gcs_chunks.specs.Content.{bytes_of};
+ghost use Rattle.gcs_index.specs.Looks.{AreLooks};
 ghost use Rattle.gcs_meaning.specs.Compose.{components_of, composed, joins, most_components, source_refusal};
 ghost use Rattle.gcs_meaning.specs.Content.{bytes_in, with_whole};
 ghost use Rattle.gcs_meaning.specs.Tests.{largest_object};
@@ -24,7 +25,7 @@ pub struct Composed {
 }
 
 /// The content of the sources, one after the other, as spans of the pieces that they have. Each source is a version that
-/// is live or noncurrent, and has the generation that it must have; the first one for which that isn't so is told. A step
+/// is live or noncurrent, and has the generation that it must have; the first one for which that isn't so is told. A search
 /// a source.
 #[tactic(auto, unfolding(gcs_meaning::specs::Compose::composed))]
 pub fn compose<L: Ledger>(
@@ -38,7 +39,7 @@ pub fn compose<L: Ledger>(
     ensures made { IfOk result (λ made. composed versions.now.rows sources.now ≡ joins made.hashed.content made.components) }
     ensures digests { IfOk result (λ made. made.hashed.with_md5 ≡ false) }
     ensures refused { IfErr result (λ fault. IsLackOf fault (composed versions.now.rows sources.now)) }
-    ensures cost { steps.new ≤ steps.old + length sources.now }
+    ensures looks { AreLooks (length sources.now) (length versions.now.rows) steps.old steps.new }
 {
     let mut joined = Joined {
         hashed: Hashed::none(alloc),

@@ -14,7 +14,7 @@ use Rattle.std.proofs.lemmas.Map.Lookups.{exact_bytes}
 use Rattle.gcs_meaning.specs.declared.version.Row.{Row}
 use Rattle.gcs_meaning.specs.declared.listing.Unit as unit
 use Rattle.gcs_meaning.specs.declared.listing.View.{View}
-use Rattle.gcs_meaning.specs.declared.listing.View.TheVariants.{Live, Versions, Soft}
+use Rattle.gcs_meaning.specs.declared.listing.View.TheVariants.{Live, Versions}
 use Rattle.gcs_meaning.specs.declared.listing.PageQuery.{PageQuery}
 use Rattle.gcs_listing.specs.Seeking.{past, IsAfterBound, IsBound, IsLow}
 use Rattle.gcs_meaning.specs.Listing.{item_of, is_from, is_after}

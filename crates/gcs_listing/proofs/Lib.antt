@@ -7,6 +7,7 @@ pub mod OrderLemmas
 pub mod PageLemmas
 pub mod PassLemmas
 pub mod RowLemmas
+pub mod SearchLemmas
 pub mod SeekLemmas
 pub mod TextLemmas
 pub mod UnitLemmas

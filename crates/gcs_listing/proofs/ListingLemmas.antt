@@ -1,7 +1,6 @@
 -- The first unit of the first row that has news is the least of the units that are left.
 use Rattle.std.proofs.Common.{◌≡◌, ◌∙◌, sym, ap, ap₂, refl, List, [], ◌∷◌, subst, Some, None, Option}
 use Rattle.std.specs.Prelude.{Bool, true, false, ◌⊎◌, if◌then◌else◌, ⊤}
-use mathlib.Core.Bool.{true≢false}
 use mathlib.Core.Logic.{inl, inr}
 use Rattle.std.specs.List.{filter, AllByRecursion}
 use Rattle.std.specs.declared.cmp.Ordering.{Ordering}
@@ -14,7 +13,7 @@ use Rattle.std.proofs.lemmas.Map.Lookups.{exact_bytes, exact_unsigned}
 use Rattle.gcs_meaning.specs.declared.listing.Unit as unit
 use Rattle.gcs_meaning.specs.Listing.{placed, ordered, is_after}
 use Rattle.gcs_meaning.specs.Order.{unit_cmp, comes_before}
-use Rattle.gcs_listing.proofs.OrderLemmas.{apart, lt_trans, lt_self, lt_not_back, le_lt, tied}
+use Rattle.gcs_listing.proofs.OrderLemmas.{apart, lt_trans, lt_self, lt_not_back, tied}
 
 pub unit_total : IsTotalOrder unit_cmp
 unit_total = then_total (on_total (λ (m : unit.Unit). m.text) nat_list_cmp_total) (on_total (λ (m : unit.Unit). m.number) nat_cmp_total)

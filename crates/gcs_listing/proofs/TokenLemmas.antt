@@ -1,10 +1,10 @@
 -- What tokens name, and what they are written for.
 use Rattle.std.proofs.Common.{◌≡◌, ◌≤◌, ◌<◌, ◌+◌, ◌-◌, ◌*◌, ◌/◌, ◌%◌, ◌∙◌, ℕ, zero, suc, Bool, true, false, sym, ap, refl, cond, List, [], ◌∷◌, ◌++◌, length, take, drop, arith, subst, Some, None, Option, append_assoc, length-append, IsUtf8, lt-ltb, ltb-true}
-use Rattle.std.specs.Prelude.{◌^◌, ◌==◌, ◌&&◌, not, if◌then◌else◌, nat_le, nat_lt, decimal, codes, slice_index, option_and_then, Result, Ok, Err, All}
+use Rattle.std.specs.Prelude.{◌^◌, ◌==◌, ◌&&◌, not, if◌then◌else◌, nat_le, nat_lt, decimal, option_and_then, Result, Ok, Err}
 use Rattle.std.specs.List.{after_first, before_first, list_all, position_or_len, prefix_len, AllByRecursion}
 use Rattle.std.specs.Result.{result_ok}
 use Rattle.std.specs.Str.{bytes_eq, is_utf8, IsAscii}
-use Rattle.std.proofs.lemmas.Bool.{and_from, and_parts, le-leb, leb-true, not-true, not_from_false, true≢false}
+use Rattle.std.proofs.lemmas.Bool.{and_from, and_parts, le-leb, leb-true}
 use Rattle.std.proofs.lemmas.Bool.Decides.{nat_tests}
 use Rattle.std.proofs.lemmas.List.Sums.{list_all-from_AllPass}
 use Rattle.std.proofs.lemmas.Fmt.{decimal_by_steps, parse-decimal, IsAscii-decimal}

@@ -1,6 +1,7 @@
 -- Where the next unit of a listing is sought, and what a seek passes over.
 use Rattle.std.specs.Prelude.{◌≡◌, ◌≤◌, ◌+◌, ℕ, suc, Bool, true, false, not, ◌&&◌, List, [], ◌∷◌, Option, is_some, length}
 use Rattle.std.specs.List.{filter, find, AllByRecursion}
+use Rattle.gcs_index.specs.Looks.{AreLooks}
 use Rattle.gcs_meaning.specs.declared.listing.PageQuery.{PageQuery}
 use Rattle.gcs_meaning.specs.declared.listing.Unit as unit
 use Rattle.gcs_meaning.specs.declared.listing.View.{View}
@@ -25,17 +26,20 @@ gone_count view moment rows = length (filter (is_gone moment) (shown_rows view r
 unfoldable pub passed_count : View → ℕ → List Row → unit.Unit → ℕ
 passed_count view moment rows bound = length (filter (λ row. is_gone moment row && comes_before (place_of row) bound) (shown_rows view rows))
 
--- the looks of a call: how many were made before it and until its end, and how many versions that are gone come before the place
--- where it began and before the one where it ended
+-- the looks of a call at so many rows: how many were counted before it and until its end, and how many versions that are gone come
+-- before the place where it began and before the one where it ended
 pub record Looks : Type 0 where
+  pub rows : ℕ
   pub before : ℕ
   pub after : ℕ
   pub gone_at_start : ℕ
   pub gone_at_end : ℕ
 
--- at most so many looks, and one more for each version that is gone and was passed over
-abbrev pub AreAtMost : ℕ → Looks → Type 0
-AreAtMost most looks = looks.after + looks.gone_at_start ≤ looks.before + most + looks.gone_at_end
+-- those of at most so many searches, and of one more for each version that is gone and was passed over
+pub record AreOfSearches (most : ℕ) (looks : Looks) : Type 0 where
+  pub searches : ℕ
+  pub few : searches + looks.gone_at_start ≤ most + looks.gone_at_end
+  pub each : AreLooks searches looks.rows looks.before looks.after
 
 -- the least text above every text that begins with p, where p isn't empty
 abbrev pub past : List ℕ → List ℕ

@@ -1,10 +1,10 @@
-//! The next unit of a listing, by two looks at the versions at most.
-ghost use Rattle.std.specs.Prelude.{◌≡◌, [], ◌∷◌, true, false, IfOk, Some, None};
+//! The next unit of a listing, by two searches among the versions at most.
+ghost use Rattle.std.specs.Prelude.{◌≡◌, [], ◌∷◌, true, false, length, IfOk, Some, None};
 ghost use Rattle.std.specs.List.{find};
 ghost use Rattle.gcs_meaning.specs.Listing.{is_after, is_prefix, keeps, units_of};
 ghost use Rattle.gcs_meaning.specs.Order.{unit_at, AreVersions};
 ghost use Rattle.gcs_listing.specs.Looking.{passed_by, passed_in, IsLooked, IsLookedAt, IsMadeOf, IsNext, IsPastFold};
-ghost use Rattle.gcs_listing.specs.Seeking.{listed_rows, passed_count, AreAtMost, IsBoundAmong};
+ghost use Rattle.gcs_listing.specs.Seeking.{listed_rows, passed_count, AreOfSearches, IsBoundAmong};
 
 use crate::bounds::{Bound, bound_after, past_text};
 use crate::folding::{fold, is_kept, is_later, item_number};
@@ -155,8 +155,9 @@ fn look_from<L: Ledger>(
     requires from { IsBoundAmong query.now (listed_rows query.now.view moment versions.now.rows) last.now from }
     ensures looked { IfOk result
         (λ look. IsLooked query.now (listed_rows query.now.view moment versions.now.rows) last.now from look) }
-    ensures cost { IfOk result (λ look. AreAtMost 1
+    ensures looks { IfOk result (λ look. AreOfSearches 1
         (record {
+          rows = length versions.now.rows;
           before = steps.old;
           after = steps.new;
           gone_at_start = passed_count query.now.view moment versions.now.rows from;
@@ -175,7 +176,7 @@ fn look_from<L: Ledger>(
     }
 }
 
-/// The least unit after `last`, sought from `from` on by two looks at most. `Err`: no memory.
+/// The least unit after `last`, sought from `from` on by two searches at most. `Err`: no memory.
 pub(crate) fn next_unit<L: Ledger>(
     alloc: Global,
     versions: &Versions,
@@ -189,8 +190,9 @@ pub(crate) fn next_unit<L: Ledger>(
     requires from { IsBoundAmong query.now (listed_rows query.now.view moment versions.now.rows) last.now from }
     ensures next { IfOk result
         (λ found. IsNext query.now (listed_rows query.now.view moment versions.now.rows) last.now found) }
-    ensures cost { IfOk result (λ found. AreAtMost 2
+    ensures looks { IfOk result (λ found. AreOfSearches 2
         (record {
+          rows = length versions.now.rows;
           before = steps.old;
           after = steps.new;
           gone_at_start = passed_count query.now.view moment versions.now.rows from;

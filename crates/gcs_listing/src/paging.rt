@@ -1,11 +1,12 @@
 //! A page of a listing: its units in order, taken one after the other.
-ghost use Rattle.std.specs.Prelude.{◌≡◌, ◌≤◌, ◌+◌, ◌*◌, ◌++◌, ◌&&◌, [], ◌∷◌, if◌then◌else◌, nat_lt, length, None, IfOk, OnOk};
+ghost use Rattle.std.specs.Prelude.{◌≡◌, ◌+◌, ◌*◌, ◌++◌, ◌&&◌, [], ◌∷◌, if◌then◌else◌, nat_lt, length, None, IfOk, OnOk};
+ghost use Rattle.gcs_index.specs.Looks.{AreLooks};
 ghost use Rattle.gcs_meaning.specs.Aging.{aged_rows};
 ghost use Rattle.gcs_meaning.specs.Listing.{page_of};
 ghost use Rattle.gcs_meaning.specs.Order.{AreVersions};
 ghost use Rattle.gcs_listing.specs.Looking.{IsNext};
 ghost use Rattle.gcs_listing.specs.Paging.{IsPaged, IsMore, option_list, texts_of};
-ghost use Rattle.gcs_listing.specs.Seeking.{gone_count, listed_rows, passed_count, AreAtMost, IsBoundAmong};
+ghost use Rattle.gcs_listing.specs.Seeking.{gone_count, listed_rows, passed_count, AreOfSearches, IsBoundAmong};
 
 use crate::bounds::{Bound, first_bound};
 use crate::looking::{Found, next_unit};
@@ -38,7 +39,8 @@ impl Taken {
 /// copy of the settings.
 ///
 /// Versions that `moment` (microseconds since 1970) has aged away are not shown, though they may still be kept.
-/// `Err`: no memory. `steps` counts the looks at the versions.
+/// `Err`: no memory. `steps` counts the looks at the versions: those of two searches a unit at most, and of three more. In the
+/// listing of soft-deleted versions there is one search more for each that is gone at the moment.
 /// Source: Cloud Storage JSON API, "Objects: list".
 pub fn page<L: Ledger>(
     alloc: Global,
@@ -49,9 +51,11 @@ pub fn page<L: Ledger>(
     steps: &mut Steps<L>,
 ) -> Result<Page, AllocError>
     ensures page { IfOk result (λ page. page ≡ page_of settings.now query.now (aged_rows moment versions.now.rows)) }
-    ensures cost { IfOk result
-        (λ page. steps.new
-        ≤ steps.old + (2 * (length page.items + length page.prefixes) + 3 + gone_count query.now.view moment versions.now.rows)) }
+    ensures looks { IfOk result
+        (λ page. AreLooks (2 * (length page.items + length page.prefixes) + 3 + gone_count query.now.view moment versions.now.rows)
+        (length versions.now.rows)
+        steps.old
+        steps.new) }
 {
     versions.known();
     let mut taken = Taken {
@@ -90,9 +94,11 @@ fn take_units<L: Ledger>(
     requires prefixes { taken.old.prefixes ≡ [] }
     ensures paged { IfOk result
         (λ next. IsPaged query.now (listed_rows query.now.view moment versions.now.rows) taken.new next) }
-    ensures cost { IfOk result
-        (λ _. steps.new
-        ≤ steps.old + (2 * (length taken.new.items + length taken.new.prefixes) + 3 + gone_count query.now.view moment versions.now.rows)) }
+    ensures looks { IfOk result
+        (λ _. AreLooks (2 * (length taken.new.items + length taken.new.prefixes) + 3 + gone_count query.now.view moment versions.now.rows)
+        (length versions.now.rows)
+        steps.old
+        steps.new) }
 {
     let mut last = query.after.copy()?;
     let mut from = first_bound(alloc, query)?;
@@ -132,8 +138,9 @@ fn has_more<L: Ledger>(
     requires from { IsBoundAmong query.now (listed_rows query.now.view moment versions.now.rows) last.now from }
     ensures more { IfOk result
         (λ more. IsMore query.now (listed_rows query.now.view moment versions.now.rows) last.now more) }
-    ensures cost { IfOk result (λ _. AreAtMost 2
+    ensures looks { IfOk result (λ _. AreOfSearches 2
         (record {
+          rows = length versions.now.rows;
           before = steps.old;
           after = steps.new;
           gone_at_start = passed_count query.now.view moment versions.now.rows from;

@@ -1,5 +1,6 @@
-use Rattle.std.proofs.Common.{◌≡◌, ◌≤◌, ◌+◌, ◌*◌, ◌^◌, false, length, drop}
+use Rattle.std.proofs.Common.{◌≡◌, ◌≤◌, ◌*◌, ◌^◌, false, length, drop}
 use Rattle.gcs_chunks.specs.Content.{bytes_of}
+use Rattle.gcs_index.specs.Looks.{AreLooks}
 use Rattle.gcs_meaning.specs.Compose.{composed, composed_from}
 use Rattle.gcs_meaning.specs.Tests.{largest_object}
 use Rattle.gcs_compose.proofs.composing.compose.Given as goal
@@ -11,5 +12,5 @@ invariant-loop-i g l = record {
   size : length (bytes_of l.joined.hashed.content) ≤ l.i * largest_object;
   count : l.joined.count ≤ l.i * 2 ^ 32;
   md5 : l.joined.hashed.with_md5 ≡ false;
-  cost : l.steps ≤ l.fn.steps + l.i;
+  looks : AreLooks l.i (length l.versions.rows) l.fn.steps l.steps;
 }

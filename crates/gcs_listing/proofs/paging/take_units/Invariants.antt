@@ -1,5 +1,5 @@
-use Rattle.std.proofs.Common.{◌≡◌, ◌≤◌, ◌+◌, ◌*◌}
-use Rattle.gcs_listing.specs.Seeking.{listed_rows, passed_count, IsBoundAmong}
+use Rattle.std.proofs.Common.{◌≡◌, ◌*◌, length}
+use Rattle.gcs_listing.specs.Seeking.{listed_rows, passed_count, AreOfSearches, IsBoundAmong}
 use Rattle.gcs_listing.proofs.PageLemmas.{IsTakenSo}
 use Rattle.gcs_listing.proofs.paging.take_units.Given as goal
 
@@ -8,6 +8,13 @@ abbrev pub invariant-loop : goal.invariant-loop
 invariant-loop g l = record {
   taken : IsTakenSo l.query (listed_rows l.query.view l.moment l.versions.rows) l.taken l.last l.counter;
   bound : IsBoundAmong l.query (listed_rows l.query.view l.moment l.versions.rows) l.last l.from;
-  cost : l.steps ≤ l.fn.steps + 2 * l.counter + passed_count l.query.view l.moment l.versions.rows l.from;
+  looks : AreOfSearches (2 * l.counter)
+      (record {
+        rows = length l.versions.rows;
+        before = l.fn.steps;
+        after = l.steps;
+        gone_at_start = 0;
+        gone_at_end = passed_count l.query.view l.moment l.versions.rows l.from;
+      });
   most : l.end ≡ l.query.most;
 }
