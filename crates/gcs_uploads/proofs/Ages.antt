@@ -1,5 +1,5 @@
 -- A call on an upload that isn't late is the same before the uploads age as after, and one on an upload that is late finds it expired.
-use Rattle.std.proofs.Common.{◌≡◌, ℕ, ◌+◌, Bool, true, false, List, [], ◌∷◌, Option, Some, None, ap, ap₂, sym, refl, ◌∙◌}
+use Rattle.std.proofs.Common.{◌≡◌, ℕ, ◌+◌, Bool, true, false, [], ◌∷◌, Option, Some, None, ap, sym, refl, ◌∙◌}
 use Rattle.std.specs.Prelude.{nat_le, ◌&&◌, cond, map}
 use Rattle.std.specs.Option.{option_map}
 use Rattle.std.specs.Ordering.{nat_cmp, match_ordering}
@@ -13,7 +13,7 @@ use Rattle.gcs_meaning.specs.declared.reason.Reason.{Reason}
 use Rattle.gcs_meaning.specs.declared.uploading.Upload.{Upload}
 use Rattle.gcs_meaning.specs.declared.uploading.UploadState.{UploadState}
 use Rattle.gcs_meaning.specs.declared.uploading.UploadState.TheVariants.{Running, Done, Cancelled, Expired}
-use Rattle.gcs_meaning.specs.Uploads.{UploadMap, aged_upload, aged_uploads, expired_if, is_running, upload_time, Outcome, called_at, in_state, is_number, upload_of, with_upload}
+use Rattle.gcs_meaning.specs.Uploads.{UploadMap, aged_upload, aged_uploads, expired_if, is_running, upload_time, Outcome, called_at, in_state, is_number, upload_of}
 use Rattle.gcs_meaning.specs.Append.{append_at, appended, appended_if, appended_in, grown_upload, piece_refusal}
 use Rattle.gcs_meaning.specs.Cancel.{cancel_at, cancelled, cancelled_in}
 use Rattle.gcs_uploads.specs.Calls.{late, late_if}

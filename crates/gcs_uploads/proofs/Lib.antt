@@ -2,4 +2,5 @@ pub mod Accepted
 pub mod Ages
 pub mod Called
 pub mod Copies
+pub mod Earliest
 pub mod Prefixes

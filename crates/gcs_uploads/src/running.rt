@@ -6,6 +6,7 @@ ghost use Rattle.gcs_meaning.specs.Uploads.{aged_upload, answers, in_state, is_r
 ghost use Rattle.gcs_meaning.specs.Append.{appended, grown, grown_upload, piece_refusal, progress_of};
 ghost use Rattle.gcs_meaning.specs.Cancel.{cancelled};
 ghost use Rattle.gcs_uploads.specs.Calls.{IsEndOf, IsPieceRefusedBy, IsRefusedBy, late};
+ghost use Rattle.gcs_uploads.specs.Earliest.{begun};
 
 use crate::fault::UploadFault;
 use crate::piece::refusal;
@@ -165,8 +166,19 @@ fn is_running(state: &UploadState) -> bool
     matches!(state, UploadState::Running)
 }
 
-// The week of an upload that began at `start`, on clocks of any reading.
-fn has_passed(start: u64, moment: u64) -> bool
+/// When an upload that runs began. One that doesn't run never expires: it has the last moment of a clock.
+pub fn begun(upload: &Upload) -> u64
+    ensures { result ≡ begun upload.now }
+{
+    if is_running(&upload.state) {
+        upload.start
+    } else {
+        u64::MAX
+    }
+}
+
+/// Whether the week of an upload that began at `start` has passed, on clocks of any reading.
+pub fn has_passed(start: u64, moment: u64) -> bool
     ensures { result ≡ nat_le (start + upload_time) moment }
 {
     moment >= UPLOAD_TIME && start <= moment - UPLOAD_TIME

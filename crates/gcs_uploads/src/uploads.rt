@@ -7,6 +7,7 @@ ghost use Rattle.gcs_meaning.specs.Uploads.{aged_uploads, answers, done_at, IsCo
 ghost use Rattle.gcs_meaning.specs.Append.{append_at};
 ghost use Rattle.gcs_meaning.specs.Cancel.{cancel_at};
 ghost use Rattle.gcs_uploads.specs.Calls.{IsRefusedBy};
+ghost use Rattle.gcs_uploads.specs.Earliest.{earliest_start};
 
 use crate::fault::UploadFault;
 use crate::running;
@@ -25,14 +26,20 @@ use std::marker::Model;
 pub struct Uploads {
     alloc: Global,
     by_number: BTreeMap<u64, Upload>,
+    // No upload that runs began before this moment, so that until a week after it none expires.
+    earliest: u64,
 }
 
 impl Model for Uploads {
+    ghost use Rattle.std.specs.Prelude.{◌≤◌};
     ghost use Rattle.gcs_meaning.specs.Uploads.{UploadMap};
+    ghost use Rattle.gcs_uploads.specs.Earliest.{earliest_start};
 
     ghost Value = { UploadMap };
 
     ghost view = { λ u. u.by_number.entries };
+
+    ghost invariant = { λ u. u.earliest ≤ earliest_start u.by_number.entries };
 }
 
 impl Uploads {
@@ -43,6 +50,7 @@ impl Uploads {
         Uploads {
             alloc,
             by_number: BTreeMap::new(alloc),
+            earliest: u64::MAX,
         }
     }
 
@@ -59,7 +67,10 @@ impl Uploads {
         ensures started { OnOk result (self.new ≡ insert_entry nat_cmp self.old number upload) }
         ensures unchanged { OnErr result (self.new ≡ self.old) }
     {
-        add(&mut self.by_number, number, upload)
+        let begun = running::begun(&upload);
+        add(&mut self.by_number, number, upload)?;
+        self.earliest = self.earliest.min(begun);
+        Ok(())
     }
 
     /// Adds a piece to the upload of a number. The bytes that are kept already are passed over.
@@ -109,15 +120,14 @@ impl Uploads {
     }
 
     /// Marks the running uploads whose week has passed at `moment` as expired. It takes no memory.
-    #[tactic(auto, unfolding(gcs_meaning::specs::Uploads::aged_uploads))]
     pub fn age(&mut self, moment: u64)
         ensures { self.new ≡ aged_uploads moment self.old }
     {
-        // Every upload is kept: `retain` is the walk whose contract tells what is written.
-        self.by_number.retain(|_, upload| {
-            running::age(upload, moment);
-            true
-        });
+        if !running::has_passed(self.earliest, moment) {
+            return;
+        }
+        age_each(&mut self.by_number, moment);
+        self.earliest = earliest_start(&self.by_number);
     }
 
     /// Drops all uploads. It takes no memory.
@@ -125,6 +135,7 @@ impl Uploads {
         ensures { self.new ≡ [] }
     {
         self.by_number = BTreeMap::new(self.alloc);
+        self.earliest = u64::MAX;
     }
 
     /// The same uploads. `Err`: no memory.
@@ -134,6 +145,7 @@ impl Uploads {
         Ok(Uploads {
             alloc: self.alloc,
             by_number: copy_each(self.alloc, &self.by_number)?,
+            earliest: self.earliest,
         })
     }
 }
@@ -152,6 +164,28 @@ fn add(uploads: &mut BTreeMap<u64, Upload>, number: u64, upload: Upload) -> Resu
             Err(AllocError)
         }
     }
+}
+
+#[tactic(auto, unfolding(gcs_meaning::specs::Uploads::aged_uploads))]
+fn age_each(uploads: &mut BTreeMap<u64, Upload>, moment: u64)
+    ensures { uploads.new.entries ≡ aged_uploads moment uploads.old.entries }
+{
+    // Every upload is kept: `retain` is the walk whose contract tells what is written.
+    uploads.retain(|_, upload| {
+        running::age(upload, moment);
+        true
+    });
+}
+
+// The earliest start of the uploads that run; where none does, the last moment of a clock.
+fn earliest_start(uploads: &BTreeMap<u64, Upload>) -> u64
+    ensures { result ≡ earliest_start uploads.now.entries }
+{
+    let mut earliest = u64::MAX;
+    for (_, upload) in uploads.iter() {
+        earliest = earliest.min(running::begun(upload));
+    }
+    earliest
 }
 
 fn copy_each(
