@@ -1,9 +1,8 @@
 -- What the finish of an upload comes to on a slot that is aged, by what was decided before.
-use Rattle.std.proofs.Common.{◌≡◌, ℕ, Bool, true, false, List, Option, Some, None, Result, Ok, Err, refl, ap, ap₂, sym, subst, ◌∙◌}
+use Rattle.std.proofs.Common.{◌≡◌, ℕ, true, false, Option, Some, None, Result, Ok, Err, refl, ap, sym, subst, ◌∙◌}
 use Rattle.std.specs.Prelude.{IfOk}
 use Rattle.std.specs.Option.{IfSome, option_map}
 use Rattle.std.proofs.lemmas.Bool.{eqb-true}
-use Rattle.gcs_meaning.specs.declared.settings.Settings.{Settings}
 use Rattle.gcs_meaning.specs.declared.version.Row.{Row}
 use Rattle.gcs_meaning.specs.declared.uploading.Upload.{Upload}
 use Rattle.gcs_meaning.specs.declared.uploading.UploadState.{UploadState}
@@ -16,7 +15,7 @@ use Rattle.gcs_meaning.specs.Slot.{State, Slot}
 use Rattle.gcs_meaning.specs.Aging.{aged, aged_alive, aged_state}
 use Rattle.gcs_meaning.specs.Choosing.{live_row}
 use Rattle.gcs_meaning.specs.Outcomes.{on_alive, unless}
-use Rattle.gcs_meaning.specs.Uploads.{IsComplete, IsCompleteIf, aged_upload, kept_of, upload_of}
+use Rattle.gcs_meaning.specs.Uploads.{IsCompleteIf, aged_upload, kept_of, upload_of}
 use Rattle.gcs_meaning.specs.UploadCalls.{on_upload}
 use Rattle.gcs_meaning.specs.Put.{put_refusal, put_state, put_step, with_version}
 use Rattle.gcs_meaning.specs.Finish.{digested_of, done_state, finish_in, finish_row, finish_step, finish_whole, is_total}

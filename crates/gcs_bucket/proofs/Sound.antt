@@ -6,7 +6,6 @@ use Rattle.std.specs.List.{AllByRecursion, find}
 use Rattle.gcs_meaning.specs.declared.version.Row.{Row}
 use Rattle.gcs_meaning.specs.declared.command.Answer.{Answer}
 use Rattle.gcs_meaning.specs.declared.command.Command.{Command}
-use Rattle.gcs_meaning.specs.declared.command.Command.TheVariants.{BucketInsert, BucketChange, Compose}
 use Rattle.gcs_meaning.specs.Moment.{effective_moment}
 use Rattle.gcs_meaning.specs.Slot.{State, Grave, Slot, fresh_slot}
 use Rattle.gcs_meaning.specs.Fit.{IsFitRow, IsFitState, IsFitUpload}

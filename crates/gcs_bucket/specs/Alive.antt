@@ -1,5 +1,5 @@
 -- What the fields of a bucket that is alive stand for, and what is asked of them.
-use Rattle.std.specs.Prelude.{◌≤◌, ◌<◌, ◌^◌, length, ℕ, List, Option, Some, None}
+use Rattle.std.specs.Prelude.{◌≤◌, ◌<◌, ◌^◌, length, ℕ, List, [], Option, Some, None}
 use Rattle.std.specs.List.{AllByRecursion}
 use Rattle.std.specs.Option.{IfSome, option_map}
 use Rattle.gcs_meaning.specs.declared.version.Row.{Row}
@@ -18,6 +18,11 @@ state_of b = record { settings = b.settings; generation = b.generation; metagene
 abbrev pub alive_of : Option Fields → Option State
 alive_of None = None
 alive_of (Some b) = Some (state_of b)
+
+-- the versions of the bucket that is alive, and none where none is
+abbrev pub rows_of : Option State → List Row
+rows_of None = []
+rows_of (Some s) = s.rows
 
 -- the settings of a bucket that is alive are in the limits
 abbrev pub AreLimited : Option State → Type 0

@@ -1,5 +1,5 @@
 -- Kinds of commands.
-use Rattle.std.specs.Prelude.{ℕ, ◌+◌, ◌≤◌, length, Bool, true, false}
+use Rattle.std.specs.Prelude.{◌≤◌, length, Bool, true, false}
 use Rattle.gcs_meaning.specs.declared.command.Command.{Command}
 use Rattle.gcs_meaning.specs.declared.command.Command.TheVariants.{List as Listing, Get, Change, Delete, Put, Compose, Restore, Start, Append, Finish, Cancel}
 
@@ -23,11 +23,6 @@ abbrev pub IsOfStored : Command → Type 0
 IsOfStored (Compose bucket name pre meta parts) = length parts ≤ 32
 IsOfStored (Restore bucket name generation pre) = Unit {0}
 IsOfStored _ = ⊥
-
--- how often the command looks versions up at most, where it doesn't list them: a compose once a source and once more
-abbrev pub looks_of : Command → ℕ
-looks_of (Compose bucket name pre meta parts) = length parts + 1
-looks_of _ = 2
 
 -- the command is on one upload
 abbrev pub IsOnUpload : Command → Type 0

@@ -1,23 +1,33 @@
 -- Slots by name, as a shard keeps them.
-use Rattle.std.specs.Prelude.{◌≡◌, ◌≤◌, ◌<◌, ◌^◌, ℕ, List, [], ◌∷◌, ◌++◌, if◌then◌else◌, length, insert, slice_get, Some, None}
+use Rattle.std.specs.Prelude.{◌≡◌, ◌≤◌, ◌<◌, ◌^◌, ℕ, Bool, not, ◌||◌, List, [], ◌∷◌, ◌++◌, length, insert, slice_get, Some, None}
+use Rattle.std.specs.List.{AllByRecursion}
+use Rattle.std.specs.Ordering.{nat_cmp}
+use Rattle.std.specs.Cmp.Lexicographic.{slice_cmp}
+use Rattle.std.specs.declared.cmp.Ordering.TheVariants.{Less}
 use Rattle.gcs_meaning.specs.declared.command.Answer.{Answer}
 use Rattle.gcs_meaning.specs.declared.command.Command.{Command}
 use Rattle.gcs_meaning.specs.declared.command.Entry.{Entry}
 use Rattle.gcs_meaning.specs.Slot.{Slot}
+use Rattle.gcs_meaning.specs.Order.{is_below}
 use Rattle.gcs_meaning.specs.Bounds.{IsSmall}
 use Rattle.gcs_meaning.specs.Step.{step}
 use Rattle.gcs_meaning.specs.declared.version.BucketRow.{BucketRow}
-use Rattle.gcs_meaning.specs.History.{Slots, slot_of, with_slot, replay, is_listed, shown_bucket}
+use Rattle.gcs_meaning.specs.History.{Slots, slot_of, with_slot, replay, shown_bucket}
 use Rattle.gcs_versions.specs.Rows.{map_at}
 
--- what a slot adds to a list of buckets
-abbrev pub listed_of : List ℕ → List ℕ → List ℕ × Slot → List BucketRow
-listed_of prefix after p = if is_listed prefix after p.0 then shown_bucket p.0 p.1.alive else []
+-- the slots rise strictly by name, in byte order
+abbrev pub NamesRise : Slots → Type 0
+NamesRise [] = Unit {0}
+NamesRise (p ∷ ps) = AllByRecursion (λ q. slice_cmp nat_cmp p.0 q.0 ≡ Less) ps × NamesRise ps
 
--- the buckets that these slots list
-abbrev pub all_listed : List ℕ → List ℕ → Slots → List BucketRow
-all_listed prefix after [] = []
-all_listed prefix after (p ∷ ps) = listed_of prefix after p ++ all_listed prefix after ps
+-- the name comes before all that a list shows: it isn't after that one, or it is below the prefix
+abbrev pub is_passed : List ℕ → List ℕ → List ℕ → Bool
+is_passed prefix after name = not (is_below after name) || is_below name prefix
+
+-- the buckets that are alive in these slots
+abbrev pub all_shown : Slots → List BucketRow
+all_shown [] = []
+all_shown (p ∷ ps) = shown_bucket p.0 p.1.alive ++ all_shown ps
 
 -- the numbers of all slots leave room for one more step
 abbrev pub AreSmall : Slots → Type 0

@@ -1,15 +1,20 @@
 -- What the fields of a slot stand for, and what every slot keeps.
+use Rattle.std.specs.Prelude.{ℕ, length}
 use Rattle.std.specs.Option.{IfSome}
 use Rattle.gcs_meaning.specs.Bounds.{IsSmall}
 use Rattle.gcs_meaning.specs.Fit.{IsFit}
 use Rattle.gcs_meaning.specs.Slot.{Slot}
 use Rattle.gcs_bucket.specs.declared.slot.Slot.{Slot as Fields}
-use Rattle.gcs_bucket.specs.Alive.{alive_of, AreCounted, AreEarly, AreLimited, AreSized, GravesAreLimited}
+use Rattle.gcs_bucket.specs.Alive.{alive_of, rows_of, AreCounted, AreEarly, AreLimited, AreSized, GravesAreLimited}
 use Rattle.gcs_bucket.specs.Uploading.{AreBelow}
 
 -- the slot that its fields stand for
 abbrev pub value_of : Fields → Slot
 value_of f = record { alive = alive_of f.alive; graves = f.graves.items; last_moment = f.last_moment; last_object = f.last_object; last_bucket = f.last_bucket; next_upload = f.next_upload }
+
+-- how many versions the bucket that is alive has
+abbrev pub row_count : Slot → ℕ
+row_count slot = length (rows_of slot.alive)
 
 -- what every slot keeps: it is fit, and the settings of its buckets, alive or deleted, are in the limits
 pub record IsSound (slot : Slot) : Type 0 where

@@ -1,12 +1,15 @@
 //! A bucket's slot: what is kept under its name, and the one call that changes it.
-ghost use Rattle.std.specs.Prelude.{◌≡◌, ◌≤◌, ◌+◌, IfOk, OnErr, false, option_map};
+ghost use Rattle.std.specs.Prelude.{◌≡◌, IfOk, OnErr, true, false, option_map};
+ghost use Rattle.gcs_index.specs.Looks.{AreLooks};
 ghost use Rattle.gcs_meaning.specs.Fit.{IsFit};
 ghost use Rattle.gcs_meaning.specs.Slot.{bucket_row, fresh_slot};
 ghost use Rattle.gcs_meaning.specs.Bounds.{IsSmall};
 ghost use Rattle.gcs_meaning.specs.Step.{step, IsOnSlot};
 ghost use Rattle.gcs_meaning.specs.Making.{NewAreAbove};
-ghost use Rattle.gcs_bucket.specs.Commands.{is_list, looks_of};
+ghost use Rattle.gcs_bucket.specs.Commands.{is_list};
 ghost use Rattle.gcs_bucket.specs.Covered.{KeepsCovered};
+ghost use Rattle.gcs_bucket.specs.Searches.{list_searches, searches_of};
+ghost use Rattle.gcs_bucket.specs.Slot.{row_count};
 
 use crate::slot::Slot;
 use gcs_chunks::Chunks;
@@ -70,7 +73,7 @@ impl Bucket {
 
     /// One command, whose request took the clock's reading `moment` (microseconds since 1970). The
     /// slot is aged first, then tested, then changed; a refusal is an answer. `steps` counts the
-    /// calls of `Versions::get`, `live` and `seek`.
+    /// looks at the versions.
     ///
     /// `Err`: no memory, and the slot stays as it was, not even aged.
     pub fn apply<L: Ledger>(
@@ -87,7 +90,9 @@ impl Bucket {
         ensures fit { IsFit self.new }
         ensures covered { KeepsCovered moment self.old self.new }
         ensures rises { NewAreAbove self.old self.new }
-        ensures cost { is_list command.now ≡ false → steps.new ≤ steps.old + looks_of command.now }
+        ensures looks { is_list command.now ≡ false → AreLooks (searches_of command.now) (row_count self.old) steps.old steps.new }
+        ensures page_looks { is_list command.now ≡ true → IfOk result (λ answer.
+            AreLooks (list_searches moment self.old command.now answer) (row_count self.old) steps.old steps.new) }
     {
         self.slot.apply(moment, command, chunks, steps)
     }

@@ -1,9 +1,9 @@
 //! The list of a shard's buckets.
-ghost use Rattle.std.specs.Prelude.{◌≡◌, ◌≤◌, ◌+◌, ◌++◌, ◌&&◌, IfOk, OnOk, length, option_map};
-ghost use Rattle.gcs_meaning.specs.Slot.{bucket_row};
-ghost use Rattle.gcs_meaning.specs.History.{is_listed, listed_buckets, unnamed_answer};
+ghost use Rattle.std.specs.Prelude.{◌≡◌, ◌≤◌, ◌+◌, ◌++◌, IfOk, OnOk, length};
+ghost use Rattle.std.specs.List.{filter};
+ghost use Rattle.gcs_meaning.specs.History.{is_listed, listed_buckets, shown_bucket, unnamed_answer};
 ghost use Rattle.gcs_meaning.specs.Texts.{begins};
-ghost use Rattle.gcs_bucket.specs.Shard.{listed_of};
+ghost use Rattle.gcs_bucket.specs.Shard.{is_passed, NamesRise};
 
 use crate::bucket::Bucket;
 use gcs_listing::is_below;
@@ -18,6 +18,7 @@ pub fn answer_unnamed(
     slots: &[(BucketName, Bucket)],
     command: &Command,
 ) -> Result<Answer, AllocError>
+    requires { NamesRise slots.now }
     ensures { IfOk result (λ answer. answer ≡ unnamed_answer slots.now command.now) }
 {
     match command {
@@ -43,46 +44,58 @@ fn list_slots(
     after: &[u8],
     most: usize,
 ) -> Result<Vec<BucketRow>, AllocError>
+    requires { NamesRise slots.now }
     ensures { IfOk result (λ rows. rows.items ≡ listed_buckets prefix.now after.now most slots.now) }
 {
     let mut rows = Vec::new(alloc);
-    for (name, bucket) in slots {
+    let listed = listed_slots(slots, prefix, after);
+    for (name, bucket) in listed {
         if rows.len() >= most {
             return Ok(rows);
         }
-        add_listed(&mut rows, prefix, after, name, bucket)?;
+        add_shown(&mut rows, name, bucket)?;
     }
     Ok(rows)
 }
 
-// Adds a bucket, if it is alive and listed.
-fn add_listed(
-    rows: &mut Vec<BucketRow>,
+// The slots whose names begin with the prefix and come after that one. They stand side by side.
+fn listed_slots<'a>(
+    slots: &'a [(BucketName, Bucket)],
     prefix: &[u8],
     after: &[u8],
+) -> &'a [(BucketName, Bucket)]
+    requires { NamesRise slots.now }
+    ensures { result.now ≡ filter (λ p. is_listed prefix.now after.now p.0) slots.now }
+{
+    let first = slots.partition_point(|slot| is_passed(prefix, after, &slot.0));
+    let rest = &slots[first..];
+    let count = rest.partition_point(|slot| has_prefix(&slot.0, prefix));
+    &rest[..count]
+}
+
+fn is_passed(prefix: &[u8], after: &[u8], name: &BucketName) -> bool
+    ensures { result ≡ is_passed prefix.now after.now name.now }
+{
+    !is_below(after, name.as_bytes()) || is_below(name.as_bytes(), prefix)
+}
+
+fn has_prefix(name: &BucketName, prefix: &[u8]) -> bool
+    ensures { result ≡ begins prefix.now name.now }
+{
+    name.as_bytes().starts_with(prefix)
+}
+
+// Adds a bucket, if it is alive.
+fn add_shown(
+    rows: &mut Vec<BucketRow>,
     name: &BucketName,
     bucket: &Bucket,
 ) -> Result<(), AllocError>
-    ensures items { OnOk result (rows.new.items ≡ rows.old.items ++ listed_of prefix.now after.now (name.now, bucket.now)) }
+    ensures items { OnOk result (rows.new.items ≡ rows.old.items ++ shown_bucket name.now bucket.now.alive) }
     ensures few { OnOk result (length rows.new.items ≤ length rows.old.items + 1) }
 {
-    if !is_listed(prefix, after, name.as_bytes()) {
-        return Ok(());
-    }
     if let Some(row) = bucket.show(name)? {
         rows.push(row)?;
     }
     Ok(())
-}
-
-fn is_listed(prefix: &[u8], after: &[u8], name: &[u8]) -> bool
-    ensures { result ≡ is_listed prefix.now after.now name.now }
-{
-    has_prefix(name, prefix) && is_below(after, name)
-}
-
-fn has_prefix(name: &[u8], prefix: &[u8]) -> bool
-    ensures { result ≡ begins prefix.now name.now }
-{
-    name.starts_with(prefix)
 }

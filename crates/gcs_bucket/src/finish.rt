@@ -1,13 +1,14 @@
 //! The finish of a resumable upload: its bytes become a version.
-ghost use Rattle.std.specs.Prelude.{◌≡◌, ◌≤◌, ◌<◌, ◌+◌, ◌^◌, IfOk, OnErr};
+ghost use Rattle.std.specs.Prelude.{◌≡◌, ◌<◌, ◌^◌, IfOk, OnErr};
 ghost use Rattle.std.specs.Option.{IfSome};
+ghost use Rattle.gcs_index.specs.Looks.{AreLooks};
 ghost use Rattle.gcs_meaning.specs.Aging.{aged};
 ghost use Rattle.gcs_meaning.specs.Finish.{digested_of, done_state, finish_step, is_total};
 ghost use Rattle.gcs_meaning.specs.Moment.{effective_moment};
 ghost use Rattle.gcs_meaning.specs.Uploads.{IsCompleteIf, kept_of, upload_of};
 ghost use Rattle.gcs_bucket.specs.Alive.{CanPut, CanRetire, on_bucket};
 ghost use Rattle.gcs_bucket.specs.Finish.{IsFinishing, decided_finish};
-ghost use Rattle.gcs_bucket.specs.Slot.{IsReady, value_of};
+ghost use Rattle.gcs_bucket.specs.Slot.{row_count, value_of, IsReady};
 
 use crate::ended::ended;
 use crate::put::Prepared;
@@ -26,7 +27,7 @@ pub struct Finished {
 }
 
 impl Slot {
-    /// The finish of the upload of a number. It is decided before ageing. At most one step.
+    /// The finish of the upload of a number. It is decided before ageing. At most one search.
     pub fn finish<L: Ledger>(
         &mut self,
         reading: u64,
@@ -40,7 +41,7 @@ impl Slot {
             let t = effective_moment self.old.last_moment reading in
             finish_step (aged (value_of self.old) t) t number ≡ (answer, value_of self.new)) }
         ensures err { OnErr result (value_of self.new ≡ value_of self.old) }
-        ensures cost { steps.new ≤ steps.old + 1 }
+        ensures looks { AreLooks 1 (row_count (value_of self.old)) steps.old steps.new }
     {
         let moment = effective(self.last_moment, reading);
         let decision = self.decide_finish(moment, number, hashed, chunks, steps)?;
@@ -57,7 +58,7 @@ impl Slot {
         }
     }
 
-    // What the finish comes to at `moment`: an answer, or this is what it makes. `Err`: no memory. At most one step.
+    // What the finish comes to at `moment`: an answer, or this is what it makes. `Err`: no memory. At most one search.
     fn decide_finish<L: Ledger>(
         &self,
         moment: u64,
@@ -71,7 +72,7 @@ impl Slot {
         ensures decided { IfOk result (λ decision.
             finish_step (aged (value_of self.now) moment) moment number ≡ decided_finish decision moment number (aged (value_of self.now) moment)) }
         ensures next { IfOk result (λ decision. IfOk decision (λ finished. IsFinishing finished number (aged (value_of self.now) moment))) }
-        ensures cost { steps.new ≤ steps.old + 1 }
+        ensures looks { AreLooks 1 (row_count (value_of self.now)) steps.old steps.new }
     {
         let Some(state) = &self.alive else {
             return Ok(Err(Answer::Refused(Reason::NoBucket)));

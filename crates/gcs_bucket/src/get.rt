@@ -1,12 +1,13 @@
 //! The read of a version. It chooses among the versions that stay, so that it is made before ageing.
-ghost use Rattle.std.specs.Prelude.{◌≡◌, ◌+◌, ◌≤◌, ◌&&◌, not, IfOk, OnErr, Some};
+ghost use Rattle.std.specs.Prelude.{◌≡◌, ◌&&◌, not, length, IfOk, OnErr, Some};
 ghost use Rattle.std.specs.Option.{option_copied};
 ghost use Rattle.std.specs.List.{find};
+ghost use Rattle.gcs_index.specs.Looks.{AreLooks};
 ghost use Rattle.gcs_meaning.specs.Aging.{aged, aged_rows, kind_stays};
 ghost use Rattle.gcs_meaning.specs.Choosing.{asked_row, is_readable, is_soft_chosen};
 ghost use Rattle.gcs_meaning.specs.Get.{get_step};
 ghost use Rattle.gcs_meaning.specs.Moment.{effective_moment};
-ghost use Rattle.gcs_bucket.specs.Slot.{value_of};
+ghost use Rattle.gcs_bucket.specs.Slot.{row_count, value_of};
 
 use crate::refusals::failed_precondition;
 use crate::slot::Slot;
@@ -16,7 +17,7 @@ use std::alloc::AllocError;
 use std::sync::ledger::Ledger;
 
 impl Slot {
-    /// The read of a version. At most one step.
+    /// The read of a version. At most one search.
     pub fn get<L: Ledger>(
         &mut self,
         reading: u64,
@@ -30,7 +31,7 @@ impl Slot {
             let t = effective_moment self.old.last_moment reading in
             get_step (aged (value_of self.old) t) name.now generation soft pre.now ≡ (answer, value_of self.new)) }
         ensures err { OnErr result (value_of self.new ≡ value_of self.old) }
-        ensures cost { steps.new ≤ steps.old + 1 }
+        ensures looks { AreLooks 1 (row_count (value_of self.old)) steps.old steps.new }
     {
         let moment = effective(self.last_moment, reading);
         let answer = self.read(moment, name, generation, soft, pre, steps)?;
@@ -49,7 +50,7 @@ impl Slot {
         pre: &Pre,
         steps: &mut Steps<L>,
     ) -> Result<Answer, AllocError>
-        ensures cost { steps.new ≤ steps.old + 1 }
+        ensures looks { AreLooks 1 (row_count (value_of self.now)) steps.old steps.new }
         ensures done { IfOk result (λ answer.
             get_step (aged (value_of self.now) moment) name.now generation soft pre.now ≡ (answer, aged (value_of self.now) moment)) }
     {
@@ -67,7 +68,7 @@ impl Slot {
 }
 
 // The version that a read asks for, among those that aren't gone at `moment`: with `soft` the
-// soft-deleted one of the generation, else the one that other requests name. At most one step.
+// soft-deleted one of the generation, else the one that other requests name. At most one search.
 fn find_asked<'a, L: Ledger>(
     rows: &'a Versions,
     moment: u64,
@@ -77,7 +78,7 @@ fn find_asked<'a, L: Ledger>(
     steps: &mut Steps<L>,
 ) -> Option<&'a Row>
     ensures found { option_copied result ≡ asked_row soft name.now generation (aged_rows moment rows.now.rows) }
-    ensures cost { steps.new ≤ steps.old + 1 }
+    ensures looks { AreLooks 1 (length rows.now.rows) steps.old steps.new }
 {
     if soft {
         match generation {
@@ -89,7 +90,7 @@ fn find_asked<'a, L: Ledger>(
     }
 }
 
-/// The soft-deleted version of that generation, unless it is gone at `moment`. One step.
+/// The soft-deleted version of that generation, unless it is gone at `moment`. One search.
 pub fn find_soft<'a, L: Ledger>(
     rows: &'a Versions,
     moment: u64,
@@ -98,7 +99,7 @@ pub fn find_soft<'a, L: Ledger>(
     steps: &mut Steps<L>,
 ) -> Option<&'a Row>
     ensures found { option_copied result ≡ find (is_soft_chosen name.now (Some generation)) (aged_rows moment rows.now.rows) }
-    ensures cost { steps.new ≡ steps.old + 1 }
+    ensures looks { AreLooks 1 (length rows.now.rows) steps.old steps.new }
 {
     rows.known();
     let row = rows.get(name, generation, steps)?;

@@ -1,9 +1,11 @@
 //! The list of a bucket's versions. It shows those that stay, so that it is made before ageing.
 ghost use Rattle.std.specs.Prelude.{◌≡◌, IfOk, OnErr};
+ghost use Rattle.gcs_index.specs.Looks.{AreLooks};
 ghost use Rattle.gcs_meaning.specs.Aging.{aged};
 ghost use Rattle.gcs_meaning.specs.Listing.{list_step};
 ghost use Rattle.gcs_meaning.specs.Moment.{effective_moment};
-ghost use Rattle.gcs_bucket.specs.Slot.{value_of};
+ghost use Rattle.gcs_bucket.specs.Searches.{page_searches};
+ghost use Rattle.gcs_bucket.specs.Slot.{row_count, value_of};
 
 use crate::slot::Slot;
 use gcs_listing::page;
@@ -24,6 +26,9 @@ impl Slot {
             let t = effective_moment self.old.last_moment reading in
             list_step (aged (value_of self.old) t) query.now ≡ (answer, value_of self.new)) }
         ensures err { OnErr result (value_of self.new ≡ value_of self.old) }
+        ensures looks { IfOk result (λ answer.
+            let t = effective_moment self.old.last_moment reading in
+            AreLooks (page_searches query.now.view t (value_of self.old).alive answer) (row_count (value_of self.old)) steps.old steps.new) }
     {
         let moment = effective(self.last_moment, reading);
         let answer = self.show_page(moment, query, steps)?;
@@ -39,8 +44,10 @@ impl Slot {
         query: &PageQuery,
         steps: &mut Steps<L>,
     ) -> Result<Answer, AllocError>
-        ensures { IfOk result (λ answer.
+        ensures done { IfOk result (λ answer.
             list_step (aged (value_of self.now) moment) query.now ≡ (answer, aged (value_of self.now) moment)) }
+        ensures looks { IfOk result (λ answer.
+            AreLooks (page_searches query.now.view moment (value_of self.now).alive answer) (row_count (value_of self.now)) steps.old steps.new) }
     {
         match &self.alive {
             Some(state) => Ok(Answer::Page(page(

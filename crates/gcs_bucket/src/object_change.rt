@@ -1,11 +1,12 @@
 //! The change of a version's metadata.
-ghost use Rattle.std.specs.Prelude.{◌≡◌, ◌≤◌, ◌+◌, ◌^◌, IfOk, OnErr, Ok};
+ghost use Rattle.std.specs.Prelude.{◌≡◌, ◌≤◌, ◌^◌, IfOk, OnErr, Ok};
+ghost use Rattle.gcs_index.specs.Looks.{AreLooks};
 ghost use Rattle.gcs_meaning.specs.Aging.{aged};
 ghost use Rattle.gcs_meaning.specs.Moment.{effective_moment};
 ghost use Rattle.gcs_meaning.specs.ObjectChange.{change_refusal, change_step, changed_row, is_released};
 ghost use Rattle.gcs_bucket.specs.Alive.{state_of};
 ghost use Rattle.gcs_bucket.specs.ObjectChange.{decided_change, with_changed, AreInPlace, IsInPlace, MakesChange};
-ghost use Rattle.gcs_bucket.specs.Slot.{IsReady, value_of};
+ghost use Rattle.gcs_bucket.specs.Slot.{row_count, value_of, IsReady};
 
 use crate::alive::State;
 use crate::refusals::{earlier_time, failed_precondition, too_much_custom};
@@ -42,7 +43,7 @@ impl Slot {
             let t = effective_moment self.old.last_moment reading in
             change_step (aged (value_of self.old) t) t name.now generation pre.now change.now whole ≡ (answer, value_of self.new)) }
         ensures err { OnErr result (value_of self.new ≡ value_of self.old) }
-        ensures cost { steps.new ≤ steps.old + 1 }
+        ensures looks { AreLooks 1 (row_count (value_of self.old)) steps.old steps.new }
     {
         let moment = effective(self.last_moment, reading);
         let decision = self.decide_change(moment, name, generation, pre, change, whole, steps)?;
@@ -53,7 +54,7 @@ impl Slot {
         }
     }
 
-    // What the change comes to at `moment`: it is refused, or this is what it makes. `Err`: no memory. At most one step.
+    // What the change comes to at `moment`: it is refused, or this is what it makes. `Err`: no memory. At most one search.
     fn decide_change<L: Ledger>(
         &self,
         moment: u64,
@@ -69,7 +70,7 @@ impl Slot {
             change_step (aged (value_of self.now) moment) moment name.now generation pre.now change.now whole
             ≡ decided_change decision name.now (aged (value_of self.now) moment)) }
         ensures place { IfOk result (λ decision. IfOk decision (λ made. AreInPlace made name.now moment (aged (value_of self.now) moment))) }
-        ensures cost { steps.new ≤ steps.old + 1 }
+        ensures looks { AreLooks 1 (row_count (value_of self.now)) steps.old steps.new }
     {
         let Some(state) = &self.alive else {
             return Ok(Err(Reason::NoBucket));

@@ -1,6 +1,7 @@
 //! The deletion of a version, and what becomes of one that is replaced.
-ghost use Rattle.std.specs.Prelude.{◌≡◌, ◌≤◌, ◌<◌, ◌+◌, ◌^◌, IfOk, OnErr, Some, Ok};
+ghost use Rattle.std.specs.Prelude.{◌≡◌, ◌<◌, ◌^◌, IfOk, OnErr, Some, Ok};
 ghost use Rattle.std.specs.Option.{option_map};
+ghost use Rattle.gcs_index.specs.Looks.{AreLooks};
 ghost use Rattle.gcs_meaning.specs.Aging.{aged};
 ghost use Rattle.gcs_meaning.specs.Choosing.{chosen_row};
 ghost use Rattle.gcs_meaning.specs.Moment.{effective_moment};
@@ -9,7 +10,7 @@ ghost use Rattle.gcs_meaning.specs.Policy.{AreInLimits};
 ghost use Rattle.gcs_versions.specs.Kept.{IsReadyToPut, IsReadyToRetire};
 ghost use Rattle.gcs_bucket.specs.Alive.{CanRetire, IsEarly, state_of};
 ghost use Rattle.gcs_bucket.specs.ObjectDeletion.{decided_deletion, IsChosenAt};
-ghost use Rattle.gcs_bucket.specs.Slot.{IsReady, value_of};
+ghost use Rattle.gcs_bucket.specs.Slot.{row_count, value_of, IsReady};
 
 use crate::alive::State;
 use crate::refusals::{failed_precondition, kept_version};
@@ -22,7 +23,7 @@ use std::sync::ledger::Ledger;
 
 impl Slot {
     /// The deletion of a version. It is decided before ageing, which takes no version that a deletion can choose. At
-    /// most one step.
+    /// most one search.
     pub fn delete<L: Ledger>(
         &mut self,
         reading: u64,
@@ -36,7 +37,7 @@ impl Slot {
             let t = effective_moment self.old.last_moment reading in
             delete_step (aged (value_of self.old) t) t name.now generation pre.now ≡ (answer, value_of self.new)) }
         ensures err { OnErr result (value_of self.new ≡ value_of self.old) }
-        ensures cost { steps.new ≤ steps.old + 1 }
+        ensures looks { AreLooks 1 (row_count (value_of self.old)) steps.old steps.new }
     {
         let moment = effective(self.last_moment, reading);
         let decision = self.decide_delete(moment, name, generation, pre, steps);
@@ -49,7 +50,7 @@ impl Slot {
     }
 
     // What the deletion comes to at `moment`: it is refused, or this is the generation of the version that goes. At
-    // most one step.
+    // most one search.
     fn decide_delete<L: Ledger>(
         &self,
         moment: u64,
@@ -63,7 +64,7 @@ impl Slot {
         ensures decided { delete_step (aged (value_of self.now) moment) moment name.now generation pre.now
             ≡ decided_deletion result moment name.now generation (aged (value_of self.now) moment) }
         ensures chosen { IfOk result (λ found. IsChosenAt name.now generation found (aged (value_of self.now) moment)) }
-        ensures cost { steps.new ≤ steps.old + 1 }
+        ensures looks { AreLooks 1 (row_count (value_of self.now)) steps.old steps.new }
     {
         let named = generation.is_some();
         let Some(state) = &self.alive else {

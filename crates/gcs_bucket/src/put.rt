@@ -1,7 +1,8 @@
 //! A new version of a name.
-ghost use Rattle.std.specs.Prelude.{◌≡◌, ◌≤◌, ◌<◌, ◌+◌, ◌^◌, IfOk, OnErr, None, Ok, true, unwrap_or};
+ghost use Rattle.std.specs.Prelude.{◌≡◌, ◌<◌, ◌^◌, IfOk, OnErr, None, Ok, length, true, unwrap_or};
 ghost use Rattle.std.specs.List.{AllByRecursion};
 ghost use Rattle.std.specs.Option.{IfSome, option_copied, option_map};
+ghost use Rattle.gcs_index.specs.Looks.{AreLooks};
 ghost use Rattle.gcs_meaning.specs.Aging.{aged};
 ghost use Rattle.gcs_meaning.specs.Choosing.{is_live, live_row};
 ghost use Rattle.gcs_meaning.specs.Moment.{effective_moment};
@@ -12,7 +13,7 @@ ghost use Rattle.gcs_meaning.specs.Put.{generation_of, kept_meta, metageneration
 ghost use Rattle.gcs_versions.specs.Kept.{IsReadyToPut, IsReadyToRetire};
 ghost use Rattle.gcs_bucket.specs.Alive.{AreEarly, CanPut, CanRetire, IsEarly, state_of};
 ghost use Rattle.gcs_bucket.specs.Put.{decided_put, tested_put, IsNext, IsNextAlive};
-ghost use Rattle.gcs_bucket.specs.Slot.{IsReady, value_of};
+ghost use Rattle.gcs_bucket.specs.Slot.{row_count, value_of, IsReady};
 
 use crate::alive::State;
 use crate::refusals::{differing_digest, failed_precondition, kept_version, too_large};
@@ -36,7 +37,7 @@ pub struct Prepared {
 }
 
 impl Slot {
-    /// The put of a version. At most one step.
+    /// The put of a version. At most one search.
     pub fn put<L: Ledger>(
         &mut self,
         reading: u64,
@@ -53,13 +54,13 @@ impl Slot {
             let t = effective_moment self.old.last_moment reading in
             put_step (aged (value_of self.old) t) t name.now pre.now meta.now hashed.now components expect.now ≡ (answer, value_of self.new)) }
         ensures err { OnErr result (value_of self.new ≡ value_of self.old) }
-        ensures cost { steps.new ≤ steps.old + 1 }
+        ensures looks { AreLooks 1 (row_count (value_of self.old)) steps.old steps.new }
     {
         let moment = effective(self.last_moment, reading);
         self.put_at(moment, name, pre, meta, hashed, components, expect, steps)
     }
 
-    /// The put of a version at `moment`. It is decided before ageing, which takes no live version. At most one step.
+    /// The put of a version at `moment`. It is decided before ageing, which takes no live version. At most one search.
     pub fn put_at<L: Ledger>(
         &mut self,
         moment: u64,
@@ -76,7 +77,7 @@ impl Slot {
         ensures done { IfOk result (λ answer.
             put_step (aged (value_of self.old) moment) moment name.now pre.now meta.now hashed.now components expect.now ≡ (answer, value_of self.new)) }
         ensures err { OnErr result (value_of self.new ≡ value_of self.old) }
-        ensures cost { steps.new ≤ steps.old + 1 }
+        ensures looks { AreLooks 1 (row_count (value_of self.old)) steps.old steps.new }
     {
         let decision = self.decide_put(moment, name, pre, meta, hashed, components, expect, steps)?;
         self.prepare(name)?;
@@ -87,7 +88,7 @@ impl Slot {
         }
     }
 
-    /// What the put comes to at `moment`: it is refused, or this is what it makes. `Err`: no memory. At most one step.
+    /// What the put comes to at `moment`: it is refused, or this is what it makes. `Err`: no memory. At most one search.
     pub fn decide_put<L: Ledger>(
         &self,
         moment: u64,
@@ -105,7 +106,7 @@ impl Slot {
             put_step (aged (value_of self.now) moment) moment name.now pre.now meta.now hashed.now components expect.now
             ≡ decided_put decision moment (aged (value_of self.now) moment)) }
         ensures next { IfOk result (λ decision. IfOk decision (λ made. IsNextAlive made name.now (aged (value_of self.now) moment))) }
-        ensures cost { steps.new ≤ steps.old + 1 }
+        ensures looks { AreLooks 1 (row_count (value_of self.now)) steps.old steps.new }
     {
         let Some(state) = &self.alive else {
             return Ok(Err(Reason::NoBucket));
@@ -158,7 +159,7 @@ impl Slot {
 }
 
 impl State {
-    /// The tests of a put at `moment`: the first that fails, or the generation of the live version of the name. One step.
+    /// The tests of a put at `moment`: the first that fails, or the generation of the live version of the name. One search.
     #[tactic(auto, unfolding(gcs_meaning::specs::Put::put_refusal))]
     pub fn test_put<L: Ledger>(
         &self,
@@ -173,7 +174,7 @@ impl State {
         requires early { AreEarly self.now.rows.rows }
         requires moment { moment < 2 ^ 62 }
         ensures tested { result ≡ tested_put (put_refusal self.now.settings moment pre.now expect.now hashed.now (live_row name.now self.now.rows.rows)) (live_row name.now self.now.rows.rows) }
-        ensures cost { steps.new ≡ steps.old + 1 }
+        ensures looks { AreLooks 1 (length self.now.rows.rows) steps.old steps.new }
     {
         let live = self.rows.live(name, steps);
         let (generation, metageneration) = numbers(live);

@@ -1,11 +1,12 @@
 //! The restore of a soft-deleted version.
-ghost use Rattle.std.specs.Prelude.{◌≡◌, ◌≤◌, ◌+◌, IfOk, OnErr};
+ghost use Rattle.std.specs.Prelude.{◌≡◌, IfOk, OnErr};
+ghost use Rattle.gcs_index.specs.Looks.{AreLooks};
 ghost use Rattle.gcs_meaning.specs.Aging.{aged};
 ghost use Rattle.gcs_meaning.specs.Moment.{effective_moment};
 ghost use Rattle.gcs_meaning.specs.Restore.{restore_step, restored_meta};
 ghost use Rattle.gcs_meaning.specs.declared.settings.Pre.{Pre};
 ghost use Rattle.gcs_bucket.specs.Restore.{decided_source};
-ghost use Rattle.gcs_bucket.specs.Slot.{IsReady, value_of};
+ghost use Rattle.gcs_bucket.specs.Slot.{row_count, value_of, IsReady};
 
 use crate::get::find_soft;
 use crate::slot::Slot;
@@ -29,7 +30,7 @@ pub const NO_EXPECT: Expect = Expect {
 };
 
 impl Slot {
-    /// The restore of the soft-deleted version of a generation, which is put as a new one. At most two steps.
+    /// The restore of the soft-deleted version of a generation, which is put as a new one. At most two searches.
     pub fn restore<L: Ledger>(
         &mut self,
         reading: u64,
@@ -43,7 +44,7 @@ impl Slot {
             let t = effective_moment self.old.last_moment reading in
             restore_step (aged (value_of self.old) t) t name.now generation pre.now ≡ (answer, value_of self.new)) }
         ensures err { OnErr result (value_of self.new ≡ value_of self.old) }
-        ensures cost { steps.new ≤ steps.old + 2 }
+        ensures looks { AreLooks 2 (row_count (value_of self.old)) steps.old steps.new }
     {
         let moment = effective(self.last_moment, reading);
         match self.copy_soft(moment, name, generation, steps)? {
@@ -65,7 +66,7 @@ impl Slot {
     }
 
     // Of what a restore at `moment` makes a version: of the soft-deleted one of that generation, or why there is none.
-    // `Err`: no memory. At most one step.
+    // `Err`: no memory. At most one search.
     fn copy_soft<L: Ledger>(
         &self,
         moment: u64,
@@ -76,7 +77,7 @@ impl Slot {
         ensures decided { IfOk result (λ decision. (pre : Pre) →
             restore_step (aged (value_of self.now) moment) moment name.now generation pre
             ≡ decided_source decision moment name.now pre (aged (value_of self.now) moment)) }
-        ensures cost { steps.new ≤ steps.old + 1 }
+        ensures looks { AreLooks 1 (row_count (value_of self.now)) steps.old steps.new }
     {
         let Some(state) = &self.alive else {
             return Ok(Err(Reason::NoBucket));

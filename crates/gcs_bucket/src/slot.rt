@@ -1,11 +1,13 @@
 //! The fields of a bucket's slot, and the one call on them.
-ghost use Rattle.std.specs.Prelude.{◌≡◌, ◌≤◌, ◌+◌, ℕ, List, IfOk, OnErr, OnOk, false, vec_len, vec_capacity};
+ghost use Rattle.std.specs.Prelude.{◌≡◌, ◌≤◌, ℕ, List, IfOk, OnErr, OnOk, true, false, vec_len, vec_capacity};
+ghost use Rattle.gcs_index.specs.Looks.{AreLooks};
 ghost use Rattle.gcs_meaning.specs.Aging.{aged};
 ghost use Rattle.gcs_meaning.specs.Slot.{fresh_slot};
 ghost use Rattle.gcs_meaning.specs.Step.{step, IsOnSlot};
 ghost use Rattle.gcs_bucket.specs.Alive.{CanPut, CanRetire};
-ghost use Rattle.gcs_bucket.specs.Commands.{is_list, looks_of, IsOfStored, IsOnUpload, IsOnVersion};
-ghost use Rattle.gcs_bucket.specs.Slot.{IsReady, value_of};
+ghost use Rattle.gcs_bucket.specs.Commands.{is_list, IsOfStored, IsOnUpload, IsOnVersion};
+ghost use Rattle.gcs_bucket.specs.Searches.{list_searches, searches_of};
+ghost use Rattle.gcs_bucket.specs.Slot.{row_count, value_of, IsReady};
 
 use crate::alive::State;
 use crate::graves::{Grave, age_graves, copy_graves};
@@ -74,7 +76,9 @@ impl Slot {
         requires in_range { IsOnSlot command.now }
         ensures done { IfOk result (λ answer. step (value_of self.old) reading command.now ≡ (answer, value_of self.new)) }
         ensures err { OnErr result (value_of self.new ≡ value_of self.old) }
-        ensures cost { is_list command.now ≡ false → steps.new ≤ steps.old + looks_of command.now }
+        ensures looks { is_list command.now ≡ false → AreLooks (searches_of command.now) (row_count (value_of self.old)) steps.old steps.new }
+        ensures page_looks { is_list command.now ≡ true → IfOk result (λ answer.
+            AreLooks (list_searches reading (value_of self.old) command.now answer) (row_count (value_of self.old)) steps.old steps.new) }
     {
         match command {
             Command::BucketInsert { bucket, settings } => self.insert(reading, bucket, settings),
@@ -110,7 +114,7 @@ impl Slot {
         requires version { IsOnVersion command.now }
         ensures done { IfOk result (λ answer. step (value_of self.old) reading command.now ≡ (answer, value_of self.new)) }
         ensures err { OnErr result (value_of self.new ≡ value_of self.old) }
-        ensures cost { steps.new ≤ steps.old + looks_of command.now }
+        ensures looks { AreLooks (searches_of command.now) (row_count (value_of self.old)) steps.old steps.new }
     {
         match command {
             Command::Get {
@@ -158,7 +162,7 @@ impl Slot {
         requires stored { IsOfStored command.now }
         ensures done { IfOk result (λ answer. step (value_of self.old) reading command.now ≡ (answer, value_of self.new)) }
         ensures err { OnErr result (value_of self.new ≡ value_of self.old) }
-        ensures cost { steps.new ≤ steps.old + looks_of command.now }
+        ensures looks { AreLooks (searches_of command.now) (row_count (value_of self.old)) steps.old steps.new }
     {
         match command {
             Command::Compose {
@@ -190,7 +194,7 @@ impl Slot {
         requires upload { IsOnUpload command.now }
         ensures done { IfOk result (λ answer. step (value_of self.old) reading command.now ≡ (answer, value_of self.new)) }
         ensures err { OnErr result (value_of self.new ≡ value_of self.old) }
-        ensures cost { steps.new ≤ steps.old + 1 }
+        ensures looks { AreLooks (searches_of command.now) (row_count (value_of self.old)) steps.old steps.new }
     {
         match command {
             Command::Start {

@@ -1,10 +1,10 @@
-//! The slots of a shard, in a plain vector that rises by name.
+//! The slots of a shard, in a plain vector that rises by name. A search halves it.
 ghost use Rattle.std.specs.Prelude.{◌≡◌, ◌≤◌, ◌<◌, IfOk, IfErr, OnErr, insert, length, vec_capacity, vec_len};
 ghost use Rattle.std.specs.Option.{option_copied};
 ghost use Rattle.gcs_meaning.specs.History.{first_step, shard_step, slot_of};
 ghost use Rattle.gcs_meaning.specs.Slot.{fresh_slot};
 ghost use Rattle.gcs_meaning.specs.Step.{step, IsInRange, IsOnSlot};
-ghost use Rattle.gcs_bucket.specs.Shard.{AreSmall, IsGapAt, IsSlotAt, IsSteppedAt};
+ghost use Rattle.gcs_bucket.specs.Shard.{AreSmall, IsGapAt, IsSlotAt, IsSteppedAt, NamesRise};
 
 use crate::bucket::Bucket;
 use crate::bucket_lists::answer_unnamed;
@@ -12,11 +12,11 @@ use gcs_chunks::Chunks;
 use gcs_meaning::{Answer, BucketName, Command, Copied, Reason};
 use gcs_versions::Steps;
 use std::alloc::{AllocError, Global};
-use std::cmp::Ordering;
 use std::sync::ledger::{Blank, Ledger};
 
 /// The slot of a name.
 pub fn find_slot<'a>(slots: &'a [(BucketName, Bucket)], name: &BucketName) -> Option<&'a Bucket>
+    requires { NamesRise slots.now }
     ensures { option_copied result ≡ slot_of name.now slots.now }
 {
     match place_of(slots, name) {
@@ -38,6 +38,7 @@ pub fn step_slots<L: Ledger>(
     requires name { blank.name ≡ L.name }
     requires parts { blank.parts ≡ L.parts }
     requires some { 0 < blank.parts }
+    requires rise { NamesRise slots.old.items }
     requires small { AreSmall slots.old.items }
     requires in_range { IsInRange command.now }
     ensures done { IfOk result (λ answer. shard_step slots.old.items moment command.now ≡ (answer, slots.new.items)) }
@@ -55,17 +56,11 @@ pub fn step_slots<L: Ledger>(
 
 // Where the slot of a name is or, as the `Err`, where it belongs.
 fn place_of(slots: &[(BucketName, Bucket)], name: &BucketName) -> Result<usize, usize>
+    requires { NamesRise slots.now }
     ensures found { IfOk result (IsSlotAt name.now slots.now) }
     ensures gap { IfErr result (IsGapAt name.now slots.now) }
 {
-    for (place, (other, _)) in slots.iter().enumerate() {
-        match name.as_bytes().cmp(other.as_bytes()) {
-            Ordering::Less => return Err(place),
-            Ordering::Equal => return Ok(place),
-            Ordering::Greater => {}
-        }
-    }
-    Err(slots.len())
+    slots.binary_search_by(|slot| slot.0.as_bytes().cmp(name.as_bytes()))
 }
 
 fn step_at<L: Ledger>(

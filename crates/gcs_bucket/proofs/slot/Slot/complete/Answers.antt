@@ -1,5 +1,4 @@
 use Rattle.std.proofs.Common.{◌∙◌, ap}
-use Rattle.gcs_meaning.specs.declared.command.Answer.{Answer}
 use Rattle.gcs_meaning.specs.Slot.{Slot}
 use Rattle.gcs_bucket.specs.Finish.{with_done}
 use Rattle.gcs_bucket.specs.Slot.{value_of}

@@ -1,8 +1,7 @@
-use Rattle.std.proofs.Common.{◌≡◌, ◌∙◌, ap, sym, subst, None, Ok}
+use Rattle.std.proofs.Common.{◌∙◌, ap, sym, subst, None}
 use Rattle.std.specs.Prelude.{IfOk}
 use Rattle.gcs_meaning.specs.declared.command.Answer.TheVariants.{Kept}
 use Rattle.gcs_meaning.specs.Aging.{aged}
-use Rattle.gcs_meaning.specs.Finish.{digested_of}
 use Rattle.gcs_meaning.specs.Put.{put_step}
 use Rattle.gcs_bucket.specs.Alive.{alive_of, state_of}
 use Rattle.gcs_bucket.specs.Put.{decided_put, IsNextAlive}
