@@ -1,4 +1,5 @@
 pub mod Inserted
 pub mod Allowed
 pub mod Lines
+pub mod Listed
 pub mod RewriteTokens

@@ -1,6 +1,7 @@
 -- Lists of objects and of buckets: what is asked for a page, and what is said of it (Cloud Storage JSON API, "Objects: list" and
 -- "Buckets: list").
-use Rattle.std.specs.Prelude.{ℕ, ◌+◌, ◌-◌, unwrap_or, Bool, List, [], ◌∷◌, length, nat_lt, take, slice_get, Option, Some, None, option_map, if◌then◌else◌}
+use Rattle.std.specs.Prelude.{◌≡◌, ◌≤◌, ℕ, ◌+◌, ◌-◌, unwrap_or, Bool, false, List, [], ◌∷◌, length, nat_lt, take, slice_get, Option, Some, None, option_map, if◌then◌else◌}
+use Rattle.std.specs.List.{AllByRecursion}
 use Rattle.gcs_meaning.specs.declared.command.Answer.{Answer}
 use Rattle.gcs_meaning.specs.declared.command.Answer.TheVariants as answer
 use Rattle.gcs_meaning.specs.declared.command.Command.{Command}
@@ -59,6 +60,16 @@ with_listed row (first ∷ rest) = if is_below row.name first.name then row ∷ 
 abbrev pub with_all_listed : List BucketRow → List BucketRow → List BucketRow
 with_all_listed [] listed = listed
 with_all_listed (row ∷ rows) listed = with_all_listed rows (with_listed row listed)
+
+-- the buckets rise by name
+abbrev pub RiseByName : List BucketRow → Type 0
+RiseByName [] = Unit {0}
+RiseByName (row ∷ rows) = AllByRecursion (λ later. is_below later.name row.name ≡ false) rows × RiseByName rows
+
+-- the buckets rise by name, and are at most so many
+pub record AreListed (most : ℕ) (rows : List BucketRow) : Type 0 where
+  pub rise : RiseByName rows
+  pub few : length rows ≤ most
 
 -- the buckets that an answer lists
 abbrev pub rows_in : Answer → List BucketRow

@@ -1,7 +1,7 @@
 //! Lists of objects and of buckets: what is asked for a page, and what is said of the buckets that sixteen shards list.
 ghost use Rattle.std.specs.Prelude.{◌≡◌, ◌≤◌, IfOk, OnOk, length, take, insert};
 ghost use Rattle.gcs_route.specs.OfTable.{IsPageSize};
-ghost use Rattle.gcs_rewrite.specs.Lists.{buckets_script, list_of_shard, listed_in, name_asked, query_of, token_after, unit_asked, view_asked, with_all_listed, with_listed};
+ghost use Rattle.gcs_rewrite.specs.Lists.{buckets_script, list_of_shard, listed_in, name_asked, query_of, rows_in, token_after, unit_asked, view_asked, with_all_listed, with_listed, AreListed, RiseByName};
 
 use crate::moves::Move;
 use crate::replies::Reply;
@@ -59,7 +59,7 @@ pub fn list_buckets(alloc: Global, call: &Call, answers: &[Answer]) -> Result<Mo
     if answers.len() < usize::from(SHARDS) {
         return ask_shard(alloc, call, answers.len() as u8);
     }
-    let rows = listed_in(alloc, answers)?;
+    let rows = listed_in(alloc, call.most as usize + 1, answers)?;
     let reply = say_buckets(alloc, call.most, rows)?;
     Ok(Move::Say(reply))
 }
@@ -96,49 +96,60 @@ fn name_asked(alloc: Global, token: &Option<Text>) -> Result<Text, AllocError>
     }
 }
 
-// The buckets that the answers list, by name.
-fn listed_in(alloc: Global, answers: &[Answer]) -> Result<Vec<BucketRow>, AllocError>
-    ensures { IfOk result (λ rows. rows.items ≡ listed_in answers.now) }
+// The first `most` of the buckets that the answers list, by name.
+fn listed_in(alloc: Global, most: usize, answers: &[Answer]) -> Result<Vec<BucketRow>, AllocError>
+    ensures { IfOk result (λ rows. rows.items ≡ take most (listed_in answers.now)) }
 {
     let mut listed = Vec::new(alloc);
     for answer in answers {
-        if let Answer::Buckets(rows) = answer {
-            add_all(&mut listed, rows.as_slice())?;
-        }
+        add_all(&mut listed, most, rows_in(answer))?;
     }
     Ok(listed)
 }
 
-// Adds copies of these buckets, each at its place.
-fn add_all(listed: &mut Vec<BucketRow>, rows: &[BucketRow]) -> Result<(), AllocError>
-    ensures { OnOk result (listed.new.items ≡ with_all_listed rows.now listed.old.items) }
+fn rows_in(answer: &Answer) -> &[BucketRow]
+    ensures { result.now ≡ rows_in answer.now }
+{
+    match answer {
+        Answer::Buckets(rows) => rows.as_slice(),
+        _ => &[],
+    }
+}
+
+// Adds copies of those of these buckets that are then among the first `most`, each at its place.
+fn add_all(listed: &mut Vec<BucketRow>, most: usize, rows: &[BucketRow]) -> Result<(), AllocError>
+    requires { AreListed most listed.old.items }
+    ensures first { OnOk result (AreListed most listed.new.items) }
+    ensures added { OnOk result (listed.new.items ≡ take most (with_all_listed rows.now listed.old.items)) }
 {
     for row in rows {
-        let row = row.copy()?;
-        add(listed, row)?;
+        add(listed, most, row)?;
     }
     Ok(())
 }
 
-// Adds a bucket before the first whose name comes after its own.
-fn add(listed: &mut Vec<BucketRow>, row: BucketRow) -> Result<(), AllocError>
-    ensures { OnOk result (listed.new.items ≡ with_listed row listed.old.items) }
+// Adds a copy of a bucket before the first whose name comes after its own, where that place is one of the first `most`.
+fn add(listed: &mut Vec<BucketRow>, most: usize, row: &BucketRow) -> Result<(), AllocError>
+    requires { AreListed most listed.old.items }
+    ensures first { OnOk result (AreListed most listed.new.items) }
+    ensures added { OnOk result (listed.new.items ≡ take most (with_listed row.now listed.old.items)) }
 {
-    let place = place_of(listed, &row);
+    let place = place_of(listed, row);
+    if place >= most {
+        return Ok(());
+    }
+    let row = row.copy()?;
+    listed.truncate(most - 1);
     listed.insert(place, row)?;
     Ok(())
 }
 
 fn place_of(listed: &[BucketRow], row: &BucketRow) -> usize
+    requires { RiseByName listed.now }
     ensures within { result ≤ length listed.now }
     ensures place { with_listed row.now listed.now ≡ insert listed.now result row.now }
 {
-    for (place, other) in listed.iter().enumerate() {
-        if is_below(row.name.as_bytes(), other.name.as_bytes()) {
-            return place;
-        }
-    }
-    listed.len()
+    listed.partition_point(|other| !is_below(row.name.as_bytes(), other.name.as_bytes()))
 }
 
 // A page of these buckets, with the token of its last one where more are left.
