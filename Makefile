@@ -1,5 +1,5 @@
 # The commands for this repository, a line each.
-.PHONY: check ci fmt style run bench bench-uploads
+.PHONY: check ci fmt style run bench bench-uploads bench-requests
 
 check:; rt all check
 ci:; rt ci
@@ -8,3 +8,4 @@ style:; python3 tools/style.py; python3 tools/unused.py
 run:; ./run serve 127.0.0.1:4443 1
 bench:; bench/run
 bench-uploads:; bench/uploads
+bench-requests:; bench/requests
