@@ -1,28 +1,20 @@
--- Rows stay a bucket's versions where one is added, changed, retired or aged away.
+-- Rows stay a bucket's versions where one is added, changed, retired or taken away.
 use Rattle.std.proofs.Common.{◌≡◌, ◌≢◌, ◌≤◌, ◌<◌, ◌^◌, refl, subst, sym, ap, ℕ, Bool, false, List, [], ◌∷◌, None}
 use Rattle.std.specs.List.{AllByRecursion, find}
 use Rattle.gcs_meaning.specs.declared.listing.Unit as unit
 use Rattle.gcs_meaning.specs.declared.settings.Meta.{Meta}
 use Rattle.gcs_meaning.specs.declared.version.Row.{Row}
 use Rattle.gcs_meaning.specs.declared.policy.Retired.{Retired}
-use Rattle.gcs_meaning.specs.Aging.{aged_rows, kind_stays}
 use Rattle.gcs_meaning.specs.Choosing.{live_row}
 use Rattle.gcs_meaning.specs.Order.{place_of, AreVersions, IsNumbered}
 use Rattle.gcs_meaning.specs.Put.{with_row}
 use Rattle.gcs_meaning.specs.Retiring.{change_first, retired_row}
 use Rattle.gcs_meaning.proofs.Chosen.{none_found}
-use Rattle.gcs_meaning.proofs.Listed.{all-change_first, all-filter, all-weaker, all-with_row}
-use Rattle.gcs_meaning.proofs.Ordered.{IsLess, changed_rise, changed_single, filtered_rise, filtered_single, placed_rise, placed_single, retired_less}
+use Rattle.gcs_meaning.proofs.Listed.{all-change_first, all-weaker, all-with_row}
+use Rattle.gcs_meaning.proofs.Ordered.{IsLess, changed_rise, changed_single, placed_rise, placed_single, retired_less}
 use Rattle.gcs_meaning.proofs.Orders.{apart}
 use Rattle.gcs_versions.specs.Rows.{changed_version, is_version}
 use Rattle.gcs_versions.proofs.Orders.{place_version}
-
-pub aged_kept : (t : ℕ) (rows : List Row) → AreVersions rows → AreVersions (aged_rows t rows)
-aged_kept t rows kept = record {
-  rise = filtered_rise (λ row. kind_stays t row.kind) rows kept.rise;
-  single = filtered_single (λ row. kind_stays t row.kind) rows kept.single;
-  numbered = all-filter IsNumbered (λ row. kind_stays t row.kind) rows kept.numbered;
-}
 
 -- ---- a row that is changed in its place, or goes
 less_numbered : (x : Row) (ys : List Row) → IsLess x ys → IsNumbered x → AllByRecursion IsNumbered ys
