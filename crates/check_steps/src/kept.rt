@@ -3,7 +3,6 @@ use gcs_meaning::{Copied, Expect, Kind, Meta, Name, Pre, Reason, Settings, Text,
 use std::alloc::{AllocError, AllocFailed, Global};
 
 /// What an object is, or an upload will be.
-#[derive(Drop)]
 pub struct Body {
     pub name: Name,
     pub bytes: Vec<u8>,
@@ -11,6 +10,21 @@ pub struct Body {
     pub has_md5: bool,
     pub components: Option<u32>,
     pub meta: Meta,
+}
+
+impl Drop for Body {
+    fn drop(self) {
+        let Body {
+            name,
+            bytes,
+            has_md5: _,
+            components: _,
+            meta,
+        } = self;
+        drop(name);
+        drop(bytes);
+        drop(meta);
+    }
 }
 
 impl Body {
@@ -27,7 +41,6 @@ impl Body {
 }
 
 /// A version of an object. Those of a bucket stand in the order in which they were made.
-#[derive(Drop)]
 pub struct Version {
     pub body: Body,
     pub generation: u64,
@@ -36,6 +49,21 @@ pub struct Version {
     pub updated: u64,
     pub retention_start: u64,
     pub kind: Kind,
+}
+
+impl Drop for Version {
+    fn drop(self) {
+        let Version {
+            body,
+            generation: _,
+            metageneration: _,
+            created: _,
+            updated: _,
+            retention_start: _,
+            kind: _,
+        } = self;
+        drop(body);
+    }
 }
 
 impl Version {
@@ -74,7 +102,6 @@ pub enum Progress {
 }
 
 /// An upload in pieces, whose body has the bytes that came so far.
-#[derive(Drop)]
 pub struct Upload {
     pub number: u64,
     pub body: Body,
@@ -85,8 +112,23 @@ pub struct Upload {
     pub progress: Progress,
 }
 
+impl Drop for Upload {
+    fn drop(self) {
+        let Upload {
+            number: _,
+            body,
+            pre: _,
+            expect: _,
+            total: _,
+            start: _,
+            progress,
+        } = self;
+        drop(body);
+        drop(progress);
+    }
+}
+
 /// A bucket that is alive, or was.
-#[derive(Drop)]
 pub struct Bucket {
     pub settings: Settings,
     pub generation: u64,
@@ -97,6 +139,23 @@ pub struct Bucket {
     pub uploads: Vec<Upload>,
 }
 
+impl Drop for Bucket {
+    fn drop(self) {
+        let Bucket {
+            settings,
+            generation: _,
+            metageneration: _,
+            created: _,
+            updated: _,
+            versions,
+            uploads,
+        } = self;
+        drop(settings);
+        drop(versions);
+        drop(uploads);
+    }
+}
+
 /// A deleted bucket, until its hard time.
 #[derive(Drop)]
 pub struct Grave {
@@ -105,7 +164,6 @@ pub struct Grave {
 }
 
 /// What is kept under the name, and the numbers that outlive the bucket.
-#[derive(Drop)]
 pub struct Slot {
     pub alloc: Global,
     /// Whether a bucket was ever inserted under the name.
@@ -118,12 +176,41 @@ pub struct Slot {
     pub last_upload: u64,
 }
 
+impl Drop for Slot {
+    fn drop(self) {
+        let Slot {
+            alloc: _,
+            is_known: _,
+            alive,
+            graves,
+            last_moment: _,
+            last_object: _,
+            last_bucket: _,
+            last_upload: _,
+        } = self;
+        drop(alive);
+        drop(graves);
+    }
+}
+
 /// A page of a listing.
-#[derive(Drop)]
 pub struct Page {
     pub items: Vec<Version>,
     pub prefixes: Vec<Text>,
     pub next: Option<Unit>,
+}
+
+impl Drop for Page {
+    fn drop(self) {
+        let Page {
+            items,
+            prefixes,
+            next,
+        } = self;
+        drop(items);
+        drop(prefixes);
+        drop(next);
+    }
 }
 
 /// What the plain store answers. A bucket is the one that is alive after the step.

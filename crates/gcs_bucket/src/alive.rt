@@ -11,7 +11,6 @@ use gcs_versions::Versions;
 use std::alloc::AllocError;
 
 /// The fields of a bucket that is alive. Moments are microseconds since 1970.
-#[derive(Drop)]
 pub struct State {
     pub settings: Settings,
     pub generation: u64,
@@ -20,6 +19,23 @@ pub struct State {
     pub updated: u64,
     pub rows: Versions,
     pub uploads: Uploads,
+}
+
+impl Drop for State {
+    fn drop(self) {
+        let State {
+            settings,
+            generation: _,
+            metageneration: _,
+            created: _,
+            updated: _,
+            rows,
+            uploads,
+        } = self;
+        drop(settings);
+        drop(rows);
+        drop(uploads);
+    }
 }
 
 impl State {

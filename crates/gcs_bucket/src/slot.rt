@@ -18,7 +18,6 @@ use std::alloc::{AllocError, Global};
 use std::sync::ledger::Ledger;
 
 /// The fields of a slot. The deleted buckets and the four numbers outlive the deletion of its bucket.
-#[derive(Drop)]
 pub struct Slot {
     pub alloc: Global,
     pub alive: Option<State>,
@@ -27,6 +26,22 @@ pub struct Slot {
     pub last_object: u64,
     pub last_bucket: u64,
     pub next_upload: u64,
+}
+
+impl Drop for Slot {
+    fn drop(self) {
+        let Slot {
+            alloc: _,
+            alive,
+            graves,
+            last_moment: _,
+            last_object: _,
+            last_bucket: _,
+            next_upload: _,
+        } = self;
+        drop(alive);
+        drop(graves);
+    }
 }
 
 impl Slot {

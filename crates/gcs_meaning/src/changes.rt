@@ -27,7 +27,6 @@ impl<T: Copied> Copied for Set<T> {
 /// A change of an object's metadata. `custom_time` is in microseconds since 1970.
 ///
 /// Of `custom`, a pair without a value removes its key, and of pairs with one key the last counts.
-#[derive(Drop)]
 pub struct MetaChange {
     pub content_type: Set<Text>,
     pub cache_control: Set<Text>,
@@ -38,6 +37,31 @@ pub struct MetaChange {
     pub temporary_hold: Set<bool>,
     pub event_hold: Set<bool>,
     pub custom: Set<List<(Text, Option<Text>)>>,
+}
+
+impl Drop for MetaChange {
+    fn drop(self) {
+        let MetaChange {
+            content_type,
+            cache_control,
+            content_disposition,
+            content_encoding,
+            content_language,
+            custom_time,
+            temporary_hold,
+            event_hold,
+            custom,
+        } = self;
+        drop(content_type);
+        drop(cache_control);
+        drop(content_disposition);
+        drop(content_encoding);
+        drop(content_language);
+        drop(custom_time);
+        drop(temporary_hold);
+        drop(event_hold);
+        drop(custom);
+    }
 }
 
 impl Copied for MetaChange {
@@ -57,7 +81,6 @@ impl Copied for MetaChange {
 }
 
 /// A change of a bucket's settings. Periods and durations are in seconds. `labels` is read as `custom` of `MetaChange`.
-#[derive(Drop)]
 pub struct SettingsChange {
     pub labels: Set<List<(Text, Option<Text>)>>,
     pub lifecycle: Set<Text>,
@@ -66,6 +89,27 @@ pub struct SettingsChange {
     pub retention_period: Set<u64>,
     pub soft_seconds: Set<u64>,
     pub storage_class: Set<Text>,
+}
+
+impl Drop for SettingsChange {
+    fn drop(self) {
+        let SettingsChange {
+            labels,
+            lifecycle,
+            versioned,
+            default_event_hold,
+            retention_period,
+            soft_seconds,
+            storage_class,
+        } = self;
+        drop(labels);
+        drop(lifecycle);
+        drop(versioned);
+        drop(default_event_hold);
+        drop(retention_period);
+        drop(soft_seconds);
+        drop(storage_class);
+    }
 }
 
 impl Copied for SettingsChange {

@@ -12,11 +12,21 @@ use std::alloc::{AllocError, Global};
 use std::marker::Model;
 
 /// A content with its CRC32C and, unless it was composed, its MD5. Both are always those of its bytes.
-#[derive(Drop)]
 pub struct Hashed {
     content: Content,
     crc32c: u32,
     md5: Option<[u8; 16]>,
+}
+
+impl Drop for Hashed {
+    fn drop(self) {
+        let Hashed {
+            content,
+            crc32c: _,
+            md5: _,
+        } = self;
+        drop(content);
+    }
 }
 
 impl Model for Hashed {

@@ -33,7 +33,6 @@ impl Copied for Unit {
 }
 
 /// What a listing asks for: at most `most` units after `after`. An empty delimiter is none.
-#[derive(Drop)]
 pub struct PageQuery {
     pub view: View,
     pub prefix: Text,
@@ -45,13 +44,47 @@ pub struct PageQuery {
     pub after: Option<Unit>,
 }
 
+impl Drop for PageQuery {
+    fn drop(self) {
+        let PageQuery {
+            view: _,
+            prefix,
+            delimiter,
+            start,
+            end,
+            trailing: _,
+            most: _,
+            after,
+        } = self;
+        drop(prefix);
+        drop(delimiter);
+        drop(start);
+        drop(end);
+        drop(after);
+    }
+}
+
 /// One page. `next` is its last unit where more are left.
-#[derive(Drop)]
 pub struct Page {
     pub items: List<Row>,
     pub prefixes: List<Text>,
     pub next: Option<Unit>,
     pub settings: Settings,
+}
+
+impl Drop for Page {
+    fn drop(self) {
+        let Page {
+            items,
+            prefixes,
+            next,
+            settings,
+        } = self;
+        drop(items);
+        drop(prefixes);
+        drop(next);
+        drop(settings);
+    }
 }
 
 impl Copied for Page {

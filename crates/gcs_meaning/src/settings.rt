@@ -22,7 +22,6 @@ pub struct Pre {
 /// The metadata of a version that its owner names. `custom_time` is in microseconds since 1970.
 ///
 /// Of a version that stands, `storage_class` and `event_hold` are there: those given, else the bucket's.
-#[derive(Drop)]
 pub struct Meta {
     pub content_type: Text,
     pub cache_control: Option<Text>,
@@ -34,6 +33,30 @@ pub struct Meta {
     pub temporary_hold: bool,
     pub event_hold: Option<bool>,
     pub custom: Pairs,
+}
+
+impl Drop for Meta {
+    fn drop(self) {
+        let Meta {
+            content_type,
+            cache_control,
+            content_disposition,
+            content_encoding,
+            content_language,
+            storage_class,
+            custom_time: _,
+            temporary_hold: _,
+            event_hold: _,
+            custom,
+        } = self;
+        drop(content_type);
+        drop(cache_control);
+        drop(content_disposition);
+        drop(content_encoding);
+        drop(content_language);
+        drop(storage_class);
+        drop(custom);
+    }
 }
 
 impl Copied for Meta {
@@ -64,7 +87,6 @@ pub struct Retention {
 
 /// The settings of a bucket. `soft_seconds` is the soft-delete duration, 0 where there is none, and `soft_since`
 /// (microseconds since 1970) is since when it is in force.
-#[derive(Drop)]
 pub struct Settings {
     pub location: Text,
     pub storage_class: Text,
@@ -75,6 +97,26 @@ pub struct Settings {
     pub retention: Option<Retention>,
     pub soft_seconds: u64,
     pub soft_since: u64,
+}
+
+impl Drop for Settings {
+    fn drop(self) {
+        let Settings {
+            location,
+            storage_class,
+            labels,
+            lifecycle,
+            versioned: _,
+            default_event_hold: _,
+            retention: _,
+            soft_seconds: _,
+            soft_since: _,
+        } = self;
+        drop(location);
+        drop(storage_class);
+        drop(labels);
+        drop(lifecycle);
+    }
 }
 
 impl Copied for Settings {

@@ -28,7 +28,6 @@ impl Copied for UploadState {
 
 /// An upload: what its version will be, the bytes kept so far, and their total in bytes where it is known. `start` is
 /// in microseconds since 1970.
-#[derive(Drop)]
 pub struct Upload {
     pub name: Name,
     pub pre: Pre,
@@ -38,6 +37,25 @@ pub struct Upload {
     pub content: Content,
     pub start: u64,
     pub state: UploadState,
+}
+
+impl Drop for Upload {
+    fn drop(self) {
+        let Upload {
+            name,
+            pre: _,
+            meta,
+            expect: _,
+            total: _,
+            content,
+            start: _,
+            state,
+        } = self;
+        drop(name);
+        drop(meta);
+        drop(content);
+        drop(state);
+    }
 }
 
 impl Copied for Upload {

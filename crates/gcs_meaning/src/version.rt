@@ -16,7 +16,6 @@ pub enum Kind {
 }
 
 /// A version of an object.
-#[derive(Drop)]
 pub struct Row {
     pub name: Name,
     pub generation: u64,
@@ -30,6 +29,26 @@ pub struct Row {
     /// The moment from which the bucket's retention period counts.
     pub retention_start: u64,
     pub kind: Kind,
+}
+
+impl Drop for Row {
+    fn drop(self) {
+        let Row {
+            name,
+            generation: _,
+            metageneration: _,
+            hashed,
+            components: _,
+            meta,
+            created: _,
+            updated: _,
+            retention_start: _,
+            kind: _,
+        } = self;
+        drop(name);
+        drop(hashed);
+        drop(meta);
+    }
 }
 
 impl Copied for Row {
@@ -59,7 +78,6 @@ pub struct RowFacts {
 }
 
 /// What is shown of a bucket.
-#[derive(Drop)]
 pub struct BucketRow {
     pub name: BucketName,
     pub generation: u64,
@@ -67,6 +85,21 @@ pub struct BucketRow {
     pub created: u64,
     pub updated: u64,
     pub settings: Settings,
+}
+
+impl Drop for BucketRow {
+    fn drop(self) {
+        let BucketRow {
+            name,
+            generation: _,
+            metageneration: _,
+            created: _,
+            updated: _,
+            settings,
+        } = self;
+        drop(name);
+        drop(settings);
+    }
 }
 
 impl Copied for BucketRow {

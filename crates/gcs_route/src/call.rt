@@ -50,7 +50,6 @@ impl MaskPart {
 ///
 /// Source: Cloud Storage JSON API, the HTTP requests and parameters of "Buckets" and "Objects"; the rows stand in
 /// specs/Table.antt.
-#[derive(Drop)]
 pub struct Call {
     /// The number of the row, from 1 to 21.
     pub row: u32,
@@ -87,6 +86,48 @@ pub struct Call {
     pub encoding: Option<Text>,
     /// `fields`
     pub mask: MaskPart,
+}
+
+impl Drop for Call {
+    fn drop(self) {
+        let Call {
+            row: _,
+            buckets,
+            objects,
+            generation: _,
+            pre: _,
+            source_generation: _,
+            source_pre: _,
+            soft: _,
+            media: _,
+            versions: _,
+            trailing: _,
+            prefix,
+            delimiter,
+            start,
+            end,
+            most: _,
+            page_token,
+            rewrite_token,
+            per_call: _,
+            upload: _,
+            upload_id: _,
+            name,
+            encoding,
+            mask,
+        } = self;
+        drop(buckets);
+        drop(objects);
+        drop(prefix);
+        drop(delimiter);
+        drop(start);
+        drop(end);
+        drop(page_token);
+        drop(rewrite_token);
+        drop(name);
+        drop(encoding);
+        drop(mask);
+    }
 }
 
 impl Call {

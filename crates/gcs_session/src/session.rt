@@ -60,13 +60,27 @@ enum Event {
 
 /// One connection: it is fed bytes, answers each message through a desk once it is whole, and gives out the bytes of the
 /// replies. At most one message is answered in a call of `feed`, and no byte is taken while bytes wait to be written.
-#[derive(Drop)]
 pub struct Session {
     alloc: Global,
     framer: Framer,
     coming: Option<Coming>,
     unsent: Unsent,
     closed: bool,
+}
+
+impl Drop for Session {
+    fn drop(self) {
+        let Session {
+            alloc: _,
+            framer,
+            coming,
+            unsent,
+            closed: _,
+        } = self;
+        drop(framer);
+        drop(coming);
+        drop(unsent);
+    }
 }
 
 impl Session {
