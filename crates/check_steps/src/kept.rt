@@ -214,7 +214,6 @@ impl Drop for Page {
 }
 
 /// What the plain store answers. A bucket is the one that is alive after the step.
-#[derive(Drop)]
 pub enum Wanted {
     Bucket,
     Object(Version),
@@ -225,6 +224,22 @@ pub enum Wanted {
     Complete(Vec<u8>),
     Cancelled,
     Refused(Reason),
+}
+
+impl Drop for Wanted {
+    fn drop(self) {
+        match self {
+            Wanted::Object(version) => drop(version),
+            Wanted::Page(page) => drop(page),
+            Wanted::Complete(bytes) => drop(bytes),
+            Wanted::Bucket
+            | Wanted::Empty
+            | Wanted::Started(_)
+            | Wanted::Kept(_)
+            | Wanted::Cancelled
+            | Wanted::Refused(_) => {}
+        }
+    }
 }
 
 /// Why a step ends before its change.

@@ -2,7 +2,7 @@
 ghost use Rattle.gcs_meaning.specs.Step.{IsInRange};
 
 use crate::comparing::is_same;
-use crate::kept::Slot;
+use crate::kept::{Slot, Wanted};
 use crate::kinds::{Missing, kind_text};
 use gcs_bucket::Shard;
 use gcs_chunks::Chunks;
@@ -39,14 +39,26 @@ impl<'c> Twins<'c> {
         requires { IsInRange command }
     {
         let wanted = self.slot.apply(moment, &command, self.chunks)?;
-        let Ok(found) = self.shard.apply(0, 0, moment, command) else {
-            return Err(AllocError);
-        };
         let text = kind_text(self.alloc, &wanted)?;
         missing.note(text.as_str());
-        if is_same(self.alloc, self.chunks, &found, &wanted, &self.slot)? {
+        if self.answers(moment, command, &wanted)? {
             return Ok(None);
         }
         Ok(Some(text))
+    }
+
+    // Whether the store answers the command so, and the slots are alike then. `Err`: no memory.
+    fn answers(
+        &mut self,
+        moment: u64,
+        command: Command,
+        wanted: &Wanted,
+    ) -> Result<bool, AllocError>
+        requires { IsInRange command }
+    {
+        let Ok(found) = self.shard.apply(0, 0, moment, command) else {
+            return Err(AllocError);
+        };
+        is_same(self.alloc, self.chunks, &found, wanted, &self.slot)
     }
 }
