@@ -1,4 +1,6 @@
 //! What is asked for by the listings that are compared.
+ghost use Rattle.std.specs.Prelude.{◌≡◌, IfOk};
+
 use crate::plain::PlainUnit;
 use gcs_meaning::{PageQuery, Text, Unit, View};
 use std::alloc::{AllocError, Global};
@@ -28,7 +30,9 @@ impl Listing<'_> {
         alloc: Global,
         most: u32,
         after: Option<PlainUnit<'_>>,
-    ) -> Result<PageQuery, AllocError> {
+    ) -> Result<PageQuery, AllocError>
+        ensures { IfOk result (λ query. query.view ≡ self.now.view) }
+    {
         Ok(PageQuery {
             view: self.view,
             prefix: Text::from_str(alloc, self.span.prefix)?,

@@ -1,11 +1,12 @@
-//! The pages of listings, compared with those of a plain body of their definition, and a line a case that tells whether they are
-//! the same.
+//! The pages of listings, compared with those of a plain body of their definition, and calls on many versions: a line a case
+//! that tells whether what came is what must come.
 #![tactic(auto)]
 
 ghost use Rattle.std.specs.Prelude.{◌≡◌, ◌<◌};
 
 mod comparing;
 mod listing;
+mod looks;
 mod plain;
 mod plan;
 mod store;
@@ -16,6 +17,7 @@ use gcs_chunks::Chunks;
 use gcs_meaning::View;
 use gcs_versions::Steps;
 use listing::{Listing, Span};
+use looks::try_looks;
 use plain::units_of;
 use plan::{MOMENT, Planned, planned_versions};
 use std::io;
@@ -54,27 +56,27 @@ const SPANS: [Span<'static>; 4] = [
 ];
 
 fn main(rt: HostRuntime) -> io::Result<ExitCode> {
-    let all_same = compare_all::<Brand>(&rt, Blank::new(1))?;
-    Ok(status(all_same))
+    let all_ok = try_all::<Brand>(&rt, Blank::new(1))?;
+    Ok(status(all_ok))
 }
 
-// Prints a line for each case, and answers whether all pages are the same.
-fn compare_all<L: Ledger>(rt: &(impl Print + AllocGlobal), blank: Blank) -> io::Result<bool>
+// Prints a line for each case, and answers whether all are as they must be.
+fn try_all<L: Ledger>(rt: &(impl Print + AllocGlobal), blank: Blank) -> io::Result<bool>
     requires name { blank.name ≡ L.name }
     requires parts { blank.parts ≡ L.parts }
     requires some { 0 < blank.parts }
 {
     let mut steps = Steps::<L>::new(blank);
-    let planned = planned_versions(rt.alloc())?;
     let chunks = Chunks::new(rt.alloc())?;
+    let mut all_ok = try_looks(rt, &chunks, &mut steps)?;
+    let planned = planned_versions(rt.alloc())?;
     let bucket = Bucket::of(rt.alloc(), &chunks, &planned, &mut steps)?;
-    let mut all_same = true;
     for view in VIEWS {
         for span in SPANS {
-            all_same &= compare_view(rt, &planned, &bucket, view, span, &mut steps)?;
+            all_ok &= compare_view(rt, &planned, &bucket, view, span, &mut steps)?;
         }
     }
-    Ok(all_same)
+    Ok(all_ok)
 }
 
 fn compare_view<L: Ledger>(

@@ -10,10 +10,17 @@ use std::alloc::{AllocError, Global};
 use std::sync::ledger::Ledger;
 
 /// A bucket: its versions and its settings.
-#[derive(Drop)]
 pub struct Bucket {
     pub versions: Versions,
     pub settings: Settings,
+}
+
+impl Drop for Bucket {
+    fn drop(self) {
+        let Bucket { versions, settings } = self;
+        drop(versions);
+        drop(settings);
+    }
 }
 
 impl Bucket {
