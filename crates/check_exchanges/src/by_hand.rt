@@ -1,5 +1,7 @@
 //! A session, fed and drained by hand.
-ghost use Rattle.std.specs.Prelude.{◌≤◌, IfOk, length};
+ghost use Rattle.std.specs.Prelude.{◌≡◌, ◌≤◌, IfOk, length};
+ghost use Rattle.gcs_chunks.specs.Content.{ChunksValue};
+ghost use Rattle.gcs_session.specs.Contents.{SessionLiesIn};
 ghost use Rattle.gcs_session.specs.Session.{IsRunning};
 
 use crate::failure::Failure;
@@ -60,7 +62,9 @@ pub fn try_by_hand(alloc: Global) -> Result<(), Failure> {
 }
 
 // Of the messages the whole one alone takes a reading of the clock.
-fn take_steps(alloc: Global, desk: &mut PlainDesk<'_>, chunks: &Chunks) -> Result<(), Failure> {
+fn take_steps(alloc: Global, desk: &mut PlainDesk<'_>, chunks: &Chunks) -> Result<(), Failure>
+    requires { desk.old.chunks ≡ chunks.now }
+{
     let mut clock = clock(alloc)?;
     let mut session = open(alloc)?;
     if !session.at_start() {
@@ -81,7 +85,8 @@ fn clock(alloc: Global) -> Result<ListClock, AllocError> {
 }
 
 fn open(alloc: Global) -> Result<Session, AllocError>
-    ensures { IfOk result IsRunning }
+    ensures running { IfOk result IsRunning }
+    ensures lies { IfOk result (λ session. (chunks : ChunksValue) → SessionLiesIn chunks session) }
 {
     Session::new(alloc, &Limits::usual())
 }
@@ -93,8 +98,12 @@ fn take_step(
     clock: &mut ListClock,
     step: &Step,
 ) -> Result<(), Failure>
-    requires { IsRunning session.old }
-    ensures { IsRunning session.new }
+    requires chunks { desk.old.chunks ≡ chunks.now }
+    requires running { IsRunning session.old }
+    requires lies { SessionLiesIn chunks.now session.old }
+    ensures chunks { desk.new.chunks ≡ desk.old.chunks }
+    ensures running { IsRunning session.new }
+    ensures lies { SessionLiesIn chunks.now session.new }
 {
     let mut block = [0u8; 1000];
     let (fed, count) = feed_and_drain(session, desk, chunks, clock, step.piece, &mut block);
@@ -118,8 +127,12 @@ fn feed_and_drain(
     piece: &[u8],
     into: &mut [u8],
 ) -> (Fed, usize)
-    requires { IsRunning session.old }
+    requires chunks { desk.old.chunks ≡ chunks.now }
+    requires running { IsRunning session.old }
+    requires lies { SessionLiesIn chunks.now session.old }
+    ensures chunks { desk.new.chunks ≡ desk.old.chunks }
     ensures running { IsRunning session.new }
+    ensures lies { SessionLiesIn chunks.now session.new }
     ensures count { result.1 ≤ length into.new }
 {
     let fed = session.feed(desk, chunks, clock, piece);

@@ -1,4 +1,6 @@
 //! A row's connections, served.
+ghost use Rattle.std.specs.Prelude.{◌≡◌};
+
 use crate::course::Course;
 use crate::limits::RowLimits;
 use crate::row::{Connection, Row};
@@ -51,7 +53,10 @@ fn serve(
     limits: &RowLimits,
     connection: &Connection,
     course: Course,
-) -> Result<Outcome, AllocError> {
+) -> Result<Outcome, AllocError>
+    requires { desk.old.chunks ≡ chunks.now }
+    ensures { desk.new.chunks ≡ desk.old.chunks }
+{
     let mut feed = Feed::new(&connection.sent, course);
     let mut tray = Tray::new(alloc, course);
     let mut clock = clock_of(alloc, &connection.readings)?;

@@ -1,5 +1,7 @@
 //! The store of a row: the bucket `tub` with the usual settings, in which nothing is.
 ghost use Rattle.std.specs.Prelude.{◌≡◌, ◌<◌, IfOk, Some};
+ghost use Rattle.gcs_chunks.specs.Content.{ChunksValue};
+ghost use Rattle.gcs_meaning.specs.Contents.{CommandLiesIn};
 ghost use Rattle.gcs_meaning.specs.Desk.{IsOf};
 ghost use Rattle.gcs_meaning.specs.History.{bucket_of};
 ghost use Rattle.gcs_meaning.specs.Policy.{AreInLimits};
@@ -17,7 +19,9 @@ pub const START: u64 = 1_700_000_000_000_000;
 pub const TUB: &str = "tub";
 
 /// A desk whose histories have the insert of the bucket alone.
-pub fn tub_desk<'c>(alloc: Global, chunks: &'c Chunks) -> Result<PlainDesk<'c>, AllocError> {
+pub fn tub_desk<'c>(alloc: Global, chunks: &'c Chunks) -> Result<PlainDesk<'c>, AllocError>
+    ensures { IfOk result (λ desk. desk.chunks ≡ chunks.now) }
+{
     let mut desk = PlainDesk::new(alloc, chunks)?;
     insert_tub(alloc, &mut desk)?;
     Ok(desk)
@@ -32,7 +36,9 @@ pub fn entries_of(desk: &PlainDesk<'_>) -> usize {
     count
 }
 
-fn insert_tub(alloc: Global, desk: &mut PlainDesk<'_>) -> Result<(), AllocError> {
+fn insert_tub(alloc: Global, desk: &mut PlainDesk<'_>) -> Result<(), AllocError>
+    ensures { desk.new.chunks ≡ desk.old.chunks }
+{
     let bucket = BucketName::new(Text::from_str(alloc, TUB)?);
     let shard = shard_of(bucket.as_bytes());
     let command = insert_command(alloc, bucket)?;
@@ -42,6 +48,7 @@ fn insert_tub(alloc: Global, desk: &mut PlainDesk<'_>) -> Result<(), AllocError>
 fn insert_command(alloc: Global, bucket: BucketName) -> Result<Command, AllocError>
     ensures in_range { IfOk result IsInRange }
     ensures bucket { IfOk result (λ command. bucket_of command ≡ Some bucket) }
+    ensures lies { IfOk result (λ command. (chunks : ChunksValue) → CommandLiesIn chunks command) }
 {
     let location = Text::from_str(alloc, "US")?;
     let storage_class = Text::from_str(alloc, "STANDARD")?;
@@ -69,6 +76,8 @@ fn call(desk: &mut PlainDesk<'_>, shard: u8, command: Command) -> Result<(), All
     requires shard { shard < 16 }
     requires belongs { IsOf shard command }
     requires in_range { IsInRange command }
+    requires contents { CommandLiesIn desk.old.chunks command }
+    ensures { desk.new.chunks ≡ desk.old.chunks }
 {
     match desk.call(shard, START, command) {
         Ok(answer) => {

@@ -1,4 +1,7 @@
 //! Contents over pieces: what is read, joined, cut, compared and copied.
+ghost use Rattle.std.specs.Prelude.{IfOk};
+ghost use Rattle.gcs_chunks.specs.Content.{ChunksValue, ContentLiesIn};
+
 use crate::report::{Failure, expect, report};
 use gcs_chunks::{Chunks, Content, Piece};
 use std::alloc::Global;
@@ -46,21 +49,25 @@ fn add(
     text: &[u8],
     from: usize,
     to: usize,
-) -> Result<(), Failure> {
+) -> Result<(), Failure>
+    ensures { (chunks : ChunksValue) → ContentLiesIn chunks content.old → ContentLiesIn chunks content.new }
+{
     if text.is_empty() || text.len() > 100 || content.len() > 100 {
         return Ok(());
     }
     let mut bytes = Vec::new(alloc);
     bytes.extend_from_slice(text)?;
     let piece = Piece::own(alloc, bytes)?;
-    if from <= to && to <= piece.as_slice().len() {
+    if from <= to && to <= piece.len() {
         content.append(&piece, from, to)?;
     }
     Ok(())
 }
 
 // Adds the rest of a short content.
-fn add_rest(content: &mut Content, other: &Content, from: u64) -> Result<(), Failure> {
+fn add_rest(content: &mut Content, other: &Content, from: u64) -> Result<(), Failure>
+    ensures { (chunks : ChunksValue) → ContentLiesIn chunks content.old → ContentLiesIn chunks other.now → ContentLiesIn chunks content.new }
+{
     if content.len() <= 100 && other.len() <= 100 && from <= other.len() {
         content.join(other, from)?;
     }
@@ -68,13 +75,33 @@ fn add_rest(content: &mut Content, other: &Content, from: u64) -> Result<(), Fai
 }
 
 // The eight bytes "abcdefgh" in three spans.
-fn eight_letters(alloc: Global) -> Result<Content, Failure> {
+fn eight_letters(alloc: Global) -> Result<Content, Failure>
+    ensures { IfOk result (λ made. (chunks : ChunksValue) → ContentLiesIn chunks made) }
+{
     let mut content = Content::empty(alloc);
     add(&mut content, alloc, b"xabcx", 1, 4)?;
     add(&mut content, alloc, b"x", 1, 1)?;
     add(&mut content, alloc, b"de", 0, 2)?;
     add(&mut content, alloc, b"fgh", 0, 3)?;
     Ok(content)
+}
+
+// The content `abcd`, behind it a further piece, and then the rest of another content from a place on, if there is one.
+fn other_of(
+    alloc: Global,
+    piece: &[u8],
+    content: &Content,
+    from: Option<u64>,
+) -> Result<Content, Failure>
+    ensures { IfOk result (λ made. (chunks : ChunksValue) → ContentLiesIn chunks content.now → ContentLiesIn chunks made) }
+{
+    let mut other = Content::empty(alloc);
+    add(&mut other, alloc, b"abcd", 0, 4)?;
+    add(&mut other, alloc, piece, 0, piece.len())?;
+    if let Some(from) = from {
+        add_rest(&mut other, content, from)?;
+    }
+    Ok(other)
 }
 
 fn try_reads(alloc: Global) -> Result<(), Failure> {
@@ -88,7 +115,7 @@ fn try_reads(alloc: Global) -> Result<(), Failure> {
         expect(row, count == wanted.len())?;
     }
     for (row, (at, wanted)) in SLICES.iter().enumerate() {
-        expect(row, content.slice_at(*at) == *wanted)?;
+        expect(row, content.slice_at(&chunks, *at) == *wanted)?;
     }
     Ok(())
 }
@@ -98,12 +125,7 @@ fn try_others(alloc: Global) -> Result<(), Failure> {
     let content = eight_letters(alloc)?;
     expect(0, content.same_spans(&content.copy()?, &chunks))?;
     for (row, (piece, from, wanted)) in OTHERS.iter().enumerate() {
-        let mut other = Content::empty(alloc);
-        add(&mut other, alloc, b"abcd", 0, 4)?;
-        add(&mut other, alloc, piece, 0, piece.len())?;
-        if let Some(from) = from {
-            add_rest(&mut other, &content, *from)?;
-        }
+        let other = other_of(alloc, piece, &content, *from)?;
         expect(row, content.same_spans(&other, &chunks) == *wanted)?;
     }
     Ok(())

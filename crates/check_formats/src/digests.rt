@@ -65,7 +65,8 @@ fn try_cuts() -> Result<(), Failure> {
         let joined = combine(crc_of(front), crc_of(back), back.len() as u64);
         expect(cut, joined == crc_of(text))?;
     }
-    Ok(())
+    let joined = combine(crc_of(b"12345"), crc_of(b"6789"), 4);
+    expect(text.len(), joined == 0xE306_9283)
 }
 
 fn try_texts(alloc: Global) -> Result<(), Failure> {

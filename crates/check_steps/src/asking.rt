@@ -1,6 +1,6 @@
 //! The commands of a run.
 ghost use Rattle.std.specs.Prelude.{◌≤◌, IfOk, length, vec_len};
-ghost use Rattle.gcs_meaning.specs.Step.{IsInRange};
+ghost use Rattle.check_steps.specs.Commands.{IsAskable};
 
 use crate::contents::{content_of, digests_of};
 use crate::kept::{Slot, Upload};
@@ -16,7 +16,7 @@ use std::alloc::AllocError;
 impl Maker<'_> {
     /// The next command, of which the first one is an insert. `Err`: no memory.
     pub fn command(&mut self, slot: &Slot) -> Result<Command, AllocError>
-        ensures { IfOk result IsInRange }
+        ensures { IfOk result IsAskable }
     {
         let verb = match self.dice.any_of(self.theme.verbs) {
             Some(verb) if slot.is_known => *verb,
@@ -40,7 +40,7 @@ impl Maker<'_> {
     }
 
     fn ask_bucket(&mut self, verb: Verb, slot: &Slot) -> Result<Command, AllocError>
-        ensures { IfOk result IsInRange }
+        ensures { IfOk result IsAskable }
     {
         let bucket = self.tub()?;
         let pre = self.bucket_pre(slot);
@@ -48,16 +48,16 @@ impl Maker<'_> {
             Some(grave) => grave.bucket.generation,
             None => slot.last_bucket,
         };
-        Ok(match verb {
-            Verb::BucketDelete => Command::BucketDelete { bucket, pre },
-            Verb::BucketLock => Command::BucketLock { bucket, pre },
-            Verb::BucketRestore => Command::BucketRestore { bucket, generation },
-            _ => Command::BucketGet { bucket, pre },
-        })
+        match verb {
+            Verb::BucketDelete => Ok(Command::BucketDelete { bucket, pre }),
+            Verb::BucketLock => Ok(Command::BucketLock { bucket, pre }),
+            Verb::BucketRestore => Ok(Command::BucketRestore { bucket, generation }),
+            _ => Ok(Command::BucketGet { bucket, pre }),
+        }
     }
 
     fn ask_version(&mut self, verb: Verb, slot: &Slot) -> Result<Command, AllocError>
-        ensures { IfOk result IsInRange }
+        ensures { IfOk result IsAskable }
     {
         let bucket = self.tub()?;
         let flag = self.dice.once_in(4);
@@ -67,33 +67,33 @@ impl Maker<'_> {
             generation,
             pre,
         } = self.target(slot, is_soft)?;
-        Ok(match verb {
-            Verb::Change => Command::Change {
+        match verb {
+            Verb::Change => Ok(Command::Change {
                 bucket,
                 name,
                 generation,
                 pre,
                 change: self.meta_change()?,
                 whole: flag,
-            },
-            Verb::Delete => Command::Delete {
+            }),
+            Verb::Delete => Ok(Command::Delete {
                 bucket,
                 name,
                 generation,
                 pre,
-            },
-            _ => Command::Get {
+            }),
+            _ => Ok(Command::Get {
                 bucket,
                 name,
                 generation,
                 soft: flag,
                 pre,
-            },
-        })
+            }),
+        }
     }
 
     fn put(&mut self, slot: &Slot) -> Result<Command, AllocError>
-        ensures { IfOk result IsInRange }
+        ensures { IfOk result IsAskable }
     {
         let name = self.name()?;
         let bytes = self.few_bytes();
@@ -140,7 +140,7 @@ impl Maker<'_> {
     }
 
     fn restore(&mut self, slot: &Slot) -> Result<Command, AllocError>
-        ensures { IfOk result IsInRange }
+        ensures { IfOk result IsAskable }
     {
         let target = self.target(slot, true)?;
         Ok(Command::Restore {
@@ -152,7 +152,7 @@ impl Maker<'_> {
     }
 
     fn compose(&mut self, slot: &Slot) -> Result<Command, AllocError>
-        ensures { IfOk result IsInRange }
+        ensures { IfOk result IsAskable }
     {
         let name = self.name()?;
         let mut parts = List::new(self.alloc);
@@ -179,7 +179,7 @@ impl Maker<'_> {
     }
 
     fn list(&mut self, slot: &Slot) -> Result<Command, AllocError>
-        ensures { IfOk result IsInRange }
+        ensures { IfOk result IsAskable }
     {
         let view = match self.dice.below(3) {
             0 => View::Live,
@@ -211,7 +211,7 @@ impl Maker<'_> {
     }
 
     fn start(&mut self, slot: &Slot) -> Result<Command, AllocError>
-        ensures { IfOk result IsInRange }
+        ensures { IfOk result IsAskable }
     {
         let name = self.name()?;
         Ok(Command::Start {
@@ -225,7 +225,7 @@ impl Maker<'_> {
     }
 
     fn append(&mut self, slot: &Slot) -> Result<Command, AllocError>
-        ensures { IfOk result IsInRange }
+        ensures { IfOk result IsAskable }
     {
         let upload = self.any_upload(slot);
         let (kept, known) = match upload {
@@ -285,19 +285,19 @@ impl Maker<'_> {
 
     // A finish comes with the digests of five bytes, which are mostly not those of the upload.
     fn end_upload(&mut self, verb: Verb, slot: &Slot) -> Result<Command, AllocError>
-        ensures { IfOk result IsInRange }
+        ensures { IfOk result IsAskable }
     {
         let bucket = self.tub()?;
         let upload = self.any_upload(slot);
         let upload = self.number(slot, upload);
-        Ok(match verb {
-            Verb::Finish => Command::Finish {
+        match verb {
+            Verb::Finish => Ok(Command::Finish {
                 bucket,
                 upload,
                 hashed: Hashed::of(content_of(self.alloc, b"55555")?, self.chunks),
-            },
-            _ => Command::Cancel { bucket, upload },
-        })
+            }),
+            _ => Ok(Command::Cancel { bucket, upload }),
+        }
     }
 }
 

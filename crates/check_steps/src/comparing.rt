@@ -1,4 +1,7 @@
 //! Answers of the store beside those of the plain store, field by field.
+ghost use Rattle.std.specs.List.{AllByRecursion};
+ghost use Rattle.gcs_meaning.specs.Contents.{AnswerLiesIn, RowLiesIn};
+
 use crate::contents::{bytes_of, digests_of};
 use crate::kept::{self, Bucket, Slot, Version, Wanted};
 use gcs_chunks::Chunks;
@@ -12,7 +15,9 @@ pub fn is_same(
     found: &Answer,
     wanted: &Wanted,
     slot: &Slot,
-) -> Result<bool, AllocError> {
+) -> Result<bool, AllocError>
+    requires { AnswerLiesIn chunks.now found.now }
+{
     Ok(match (found, wanted, &slot.alive) {
         (Answer::Bucket(row), Wanted::Bucket, Some(bucket)) => is_same_bucket(row, bucket),
         (Answer::Object(row, settings), Wanted::Object(version), Some(bucket)) => {
@@ -60,7 +65,9 @@ fn is_same_version(
     chunks: &Chunks,
     row: &Row,
     version: &Version,
-) -> Result<bool, AllocError> {
+) -> Result<bool, AllocError>
+    requires { RowLiesIn chunks.now row.now }
+{
     let body = &version.body;
     let (crc, md5) = digests_of(&body.bytes);
     let bytes = bytes_of(alloc, chunks, row.hashed.content())?;
@@ -120,7 +127,9 @@ fn is_same_page(
     chunks: &Chunks,
     found: &Page,
     wanted: &kept::Page,
-) -> Result<bool, AllocError> {
+) -> Result<bool, AllocError>
+    requires { AllByRecursion (RowLiesIn chunks.now) found.now.items }
+{
     let items = found.items.as_slice();
     let prefixes = found.prefixes.as_slice();
     if items.len() != wanted.items.len() || prefixes.len() != wanted.prefixes.len() {

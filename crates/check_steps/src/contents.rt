@@ -1,12 +1,15 @@
 //! Contents, their bytes, and the digests of these.
-ghost use Rattle.std.specs.Prelude.{◌≤◌, length};
+ghost use Rattle.std.specs.Prelude.{◌≤◌, length, IfOk};
+ghost use Rattle.gcs_chunks.specs.Content.{ChunksValue, ContentLiesIn};
 
 use gcs_chunks::{Chunks, Content, Piece};
 use gcs_crc::Digests;
 use std::alloc::{AllocError, Global};
 
 /// All bytes of a content. `Err`: no memory.
-pub fn bytes_of(alloc: Global, chunks: &Chunks, content: &Content) -> Result<Vec<u8>, AllocError> {
+pub fn bytes_of(alloc: Global, chunks: &Chunks, content: &Content) -> Result<Vec<u8>, AllocError>
+    requires { ContentLiesIn chunks.now content.now }
+{
     let mut bytes = vec![in alloc; 0u8; content.len() as usize]?;
     content.read(chunks, 0, &mut bytes);
     Ok(bytes)
@@ -16,6 +19,7 @@ pub fn bytes_of(alloc: Global, chunks: &Chunks, content: &Content) -> Result<Vec
 #[tactic(auto, unfolding(gcs_chunks::specs::Content::bytes_of, gcs_chunks::specs::Content::no_content))]
 pub fn content_of(alloc: Global, bytes: &[u8]) -> Result<Content, AllocError>
     requires { length bytes.now ≤ 1048576 }
+    ensures { IfOk result (λ made. (chunks : ChunksValue) → ContentLiesIn chunks made) }
 {
     let mut content = Content::empty(alloc);
     let size = bytes.len();

@@ -3,7 +3,7 @@ ghost use Rattle.std.specs.Prelude.{IfOk};
 ghost use Rattle.std.specs.Option.{ForSome};
 ghost use Rattle.gcs_meaning.specs.Changes.{IfSet};
 ghost use Rattle.gcs_meaning.specs.Policy.{IsDuration, IsPeriod};
-ghost use Rattle.gcs_meaning.specs.Step.{IsInRange};
+ghost use Rattle.check_steps.specs.Commands.{IsAskable};
 
 use crate::kept::Slot;
 use crate::maker::Maker;
@@ -15,7 +15,7 @@ use std::alloc::AllocError;
 
 impl Maker<'_> {
     pub fn insert(&mut self) -> Result<Command, AllocError>
-        ensures { IfOk result IsInRange }
+        ensures { IfOk result IsAskable }
     {
         let settings = Settings {
             location: self.text("US")?,
@@ -83,7 +83,7 @@ impl Maker<'_> {
     }
 
     pub fn change_bucket(&mut self, slot: &Slot) -> Result<Command, AllocError>
-        ensures { IfOk result IsInRange }
+        ensures { IfOk result IsAskable }
     {
         let change = SettingsChange {
             labels: self.set_pairs()?,

@@ -1,4 +1,6 @@
 //! Preconditions, and the rule of whatever makes a version.
+ghost use Rattle.gcs_meaning.specs.Contents.{CommandLiesIn};
+
 use crate::contents::{bytes_of, digests_of};
 use crate::kept::{Body, Bucket, Slot, Stop, Version, Wanted};
 use gcs_chunks::Chunks;
@@ -75,7 +77,9 @@ impl Slot {
         moment: u64,
         command: &Command,
         chunks: &Chunks,
-    ) -> Result<Wanted, Stop> {
+    ) -> Result<Wanted, Stop>
+        requires { CommandLiesIn chunks.now command.now }
+    {
         let Command::Put {
             name,
             pre,

@@ -1,4 +1,6 @@
 //! One command on the plain store.
+ghost use Rattle.gcs_meaning.specs.Contents.{CommandLiesIn};
+
 use crate::kept::{Bucket, Progress, Slot, Stop, Wanted};
 use crate::puts::check_metageneration;
 use gcs_chunks::Chunks;
@@ -29,7 +31,9 @@ impl Slot {
         reading: u64,
         command: &Command,
         chunks: &Chunks,
-    ) -> Result<Wanted, AllocError> {
+    ) -> Result<Wanted, AllocError>
+        requires { CommandLiesIn chunks.now command.now }
+    {
         match self.step(reading, command, chunks) {
             Ok(wanted) => Ok(wanted),
             Err(Stop::Refused(reason)) => Ok(Wanted::Refused(reason)),
@@ -37,7 +41,9 @@ impl Slot {
         }
     }
 
-    fn step(&mut self, reading: u64, command: &Command, chunks: &Chunks) -> Result<Wanted, Stop> {
+    fn step(&mut self, reading: u64, command: &Command, chunks: &Chunks) -> Result<Wanted, Stop>
+        requires { CommandLiesIn chunks.now command.now }
+    {
         if !self.is_known {
             self.know(command)?;
         }
@@ -97,7 +103,9 @@ impl Slot {
 
 impl Bucket {
     // The commands that need nothing of the slot but its bucket.
-    fn step(&mut self, moment: u64, command: &Command, chunks: &Chunks) -> Result<Wanted, Stop> {
+    fn step(&mut self, moment: u64, command: &Command, chunks: &Chunks) -> Result<Wanted, Stop>
+        requires { CommandLiesIn chunks.now command.now }
+    {
         match command {
             Command::BucketGet { pre, .. } => {
                 check_metageneration(pre, self.metageneration)?;

@@ -1,5 +1,6 @@
 //! The store and the plain store, side by side.
-ghost use Rattle.gcs_meaning.specs.Step.{IsInRange};
+ghost use Rattle.std.specs.Prelude.{◌≡◌};
+ghost use Rattle.check_steps.specs.Commands.{IsAskable};
 
 use crate::comparing::is_same;
 use crate::kept::{Slot, Wanted};
@@ -16,6 +17,8 @@ pub struct Twins<'c> {
     chunks: &'c Chunks,
     shard: Shard<'c>,
     pub slot: Slot,
+    // What the shard answers is read in these chunks.
+    ghost of_chunks: { shard.chunks ≡ chunks.now },
 }
 
 impl<'c> Twins<'c> {
@@ -36,7 +39,7 @@ impl<'c> Twins<'c> {
         command: Command,
         missing: &mut Missing,
     ) -> Result<Option<String>, AllocError>
-        requires { IsInRange command }
+        requires { IsAskable command }
     {
         let wanted = self.slot.apply(moment, &command, self.chunks)?;
         let text = kind_text(self.alloc, &wanted)?;
@@ -54,7 +57,7 @@ impl<'c> Twins<'c> {
         command: Command,
         wanted: &Wanted,
     ) -> Result<bool, AllocError>
-        requires { IsInRange command }
+        requires { IsAskable command }
     {
         let Ok(found) = self.shard.apply(0, 0, moment, command) else {
             return Err(AllocError);

@@ -1,4 +1,6 @@
 //! Uploads in pieces.
+ghost use Rattle.gcs_meaning.specs.Contents.{CommandLiesIn};
+
 use crate::contents::bytes_of;
 use crate::kept::{Body, Bucket, Progress, Slot, Stop, Upload, Wanted};
 use gcs_chunks::Chunks;
@@ -71,7 +73,9 @@ impl Bucket {
     }
 
     /// Adds a piece to an upload.
-    pub fn append(&mut self, command: &Command, chunks: &Chunks) -> Result<Wanted, Stop> {
+    pub fn append(&mut self, command: &Command, chunks: &Chunks) -> Result<Wanted, Stop>
+        requires { CommandLiesIn chunks.now command.now }
+    {
         let Command::Append {
             upload,
             offset,

@@ -1,9 +1,9 @@
 //! The commands on the bucket itself, by their words.
 ghost use Rattle.std.specs.Prelude.{IfOk};
-ghost use Rattle.std.specs.Option.{ForSome};
+ghost use Rattle.std.specs.Option.{ForSome, IfSome};
 ghost use Rattle.gcs_meaning.specs.Changes.{IfSet};
 ghost use Rattle.gcs_meaning.specs.Policy.{AreInLimits, IsDuration, IsPeriod};
-ghost use Rattle.gcs_meaning.specs.Step.{IsInRange};
+ghost use Rattle.check_store.specs.Commands.{IsAskable};
 
 use crate::commands::{ANY, tub};
 use gcs_meaning::{
@@ -40,7 +40,7 @@ pub fn bucket_command(
     word: &str,
     number: Option<u64>,
 ) -> Result<Option<Command>, AllocError>
-    ensures { IfOk result (λ command. ForSome command IsInRange) }
+    ensures { IfOk result (λ command. IfSome command IsAskable) }
 {
     let bucket = tub(alloc)?;
     let pre = Pre {
@@ -89,7 +89,7 @@ fn terms_of(word: &str) -> Option<Terms> {
 }
 
 fn insert(alloc: Global, bucket: BucketName, terms: Terms) -> Result<Command, AllocError>
-    ensures { IfOk result IsInRange }
+    ensures { IfOk result IsAskable }
 {
     let settings = Settings {
         location: Text::from_str(alloc, "US")?,
@@ -125,7 +125,7 @@ fn duration(terms: Terms) -> u64
 }
 
 fn change_command(bucket: BucketName, word: &str) -> Option<Command>
-    ensures { ForSome result IsInRange }
+    ensures { IfSome result IsAskable }
 {
     Some(match word {
         "versioning-on" => change_bucket(bucket, Set::To(true), Set::Keep, Set::Keep, false),
@@ -149,7 +149,7 @@ fn change_bucket(
 ) -> Command
     requires period { IfSet retention_period IsPeriod }
     requires duration { IfSet soft_seconds IsDuration }
-    ensures { IsInRange result }
+    ensures { IsAskable result }
 {
     let change = SettingsChange {
         labels: Set::Keep,

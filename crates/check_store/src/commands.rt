@@ -1,7 +1,7 @@
 //! The commands of a row, by their words, on the bucket `tub` and its object `a`.
 ghost use Rattle.std.specs.Prelude.{IfOk};
-ghost use Rattle.std.specs.Option.{ForSome};
-ghost use Rattle.gcs_meaning.specs.Step.{IsInRange};
+ghost use Rattle.std.specs.Option.{IfSome};
+ghost use Rattle.check_store.specs.Commands.{IsAskable};
 
 use crate::bucket_commands::bucket_command;
 use crate::upload_commands::upload_command;
@@ -23,7 +23,7 @@ pub fn command_of(
     chunks: &Chunks,
     words: &str,
 ) -> Result<Option<Command>, AllocError>
-    ensures { IfOk result (λ command. ForSome command IsInRange) }
+    ensures { IfOk result (λ command. IfSome command IsAskable) }
 {
     let (word, numbers) = words.split_once(" ").unwrap_or((words, ""));
     let number = numbers.parse::<u64>().ok();

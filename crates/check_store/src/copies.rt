@@ -1,6 +1,6 @@
 //! Values of the store and their copies.
 ghost use Rattle.std.specs.Prelude.{◌≡◌, ◌<◌, [], IfOk, true};
-ghost use Rattle.gcs_chunks.specs.Content.{bytes_of};
+ghost use Rattle.gcs_chunks.specs.Content.{bytes_of, ChunksValue, ContentLiesIn};
 ghost use Rattle.gcs_meaning.specs.Choosing.{is_live};
 
 use crate::answers::refusal_text;
@@ -45,13 +45,16 @@ pub fn first_bad_copy(alloc: Global) -> Result<Option<&'static str>, AllocError>
 
 #[tactic(auto, unfolding(gcs_chunks::specs::Content::bytes_of, gcs_chunks::specs::Content::no_content))]
 fn no_bytes(alloc: Global) -> Content
-    ensures { bytes_of result ≡ [] }
+    ensures bytes { bytes_of result ≡ [] }
+    ensures lies { (chunks : ChunksValue) → ContentLiesIn chunks result }
 {
     Content::empty(alloc)
 }
 
 fn digits(alloc: Global, mut content: Content) -> Result<Content, AllocError>
-    requires { bytes_of content ≡ [] }
+    requires bytes { bytes_of content ≡ [] }
+    requires lies { (chunks : ChunksValue) → ContentLiesIn chunks content }
+    ensures { IfOk result (λ made. (chunks : ChunksValue) → ContentLiesIn chunks made) }
 {
     let bytes = Vec::from_slice(alloc, b"123456789")?;
     let piece = Piece::own(alloc, bytes)?;

@@ -1,12 +1,14 @@
 //! Contents that are joined or cut otherwise with their digests, and what else the store's data give away.
-ghost use Rattle.std.specs.Prelude.{◌≡◌, ◌≤◌, [], length};
-ghost use Rattle.gcs_chunks.specs.Content.{bytes_of};
+ghost use Rattle.std.specs.Prelude.{◌≡◌, ◌≤◌, [], length, IfOk};
+ghost use Rattle.gcs_chunks.specs.Content.{bytes_of, ChunksValue, ContentLiesIn};
+ghost use Rattle.gcs_meaning.specs.Contents.{HashedLiesIn};
 
 use gcs_chunks::{Chunks, Content, Piece};
 use gcs_meaning::{BucketName, Copied, Hashed, Name, Part, Text};
 use std::alloc::{AllocError, Global};
 
 /// Whether the digits, joined of two contents, have their CRC without an MD5; and cut in two, both digests that they have as one.
+#[tactic(auto, using(gcs_chunks::proofs::Words::lies_nothing))]
 pub fn are_joined(alloc: Global, chunks: &Chunks) -> Result<bool, AllocError> {
     let mut joined = Hashed::none(alloc);
     let empty = joined.crc() == 0 && joined.md5().is_none();
@@ -25,7 +27,10 @@ pub fn are_joined(alloc: Global, chunks: &Chunks) -> Result<bool, AllocError> {
 }
 
 // Both are short, so that the joined length is.
-fn join(whole: &mut Hashed, part: &Hashed) -> Result<bool, AllocError> {
+#[tactic(auto, using(gcs_chunks::proofs::Words::lies_joined, gcs_chunks::proofs::Words::lies_rest))]
+fn join(whole: &mut Hashed, part: &Hashed) -> Result<bool, AllocError>
+    ensures { (chunks : ChunksValue) → HashedLiesIn chunks whole.old → HashedLiesIn chunks part.now → HashedLiesIn chunks whole.new }
+{
     if whole.content().len() > 9 || part.content().len() > 9 {
         return Ok(false);
     }
@@ -33,7 +38,10 @@ fn join(whole: &mut Hashed, part: &Hashed) -> Result<bool, AllocError> {
     Ok(true)
 }
 
-fn is_over(whole: &Hashed, joined: &Hashed, chunks: &Chunks) -> Result<bool, AllocError> {
+fn is_over(whole: &Hashed, joined: &Hashed, chunks: &Chunks) -> Result<bool, AllocError>
+    requires whole { HashedLiesIn chunks.now whole.now }
+    requires joined { HashedLiesIn chunks.now joined.now }
+{
     let content = joined.content().copy()?;
     Ok(if content.same_spans(whole.content(), chunks) {
         let over = whole.over(content);
@@ -46,11 +54,12 @@ fn is_over(whole: &Hashed, joined: &Hashed, chunks: &Chunks) -> Result<bool, All
 fn content_of(alloc: Global, bytes: &[u8]) -> Result<Content, AllocError>
     requires least { 1 ≤ length bytes.now }
     requires most { length bytes.now ≤ 9 }
+    ensures { IfOk result (λ made. (chunks : ChunksValue) → ContentLiesIn chunks made) }
 {
     let mut content = no_bytes(alloc);
     let bytes = Vec::from_slice(alloc, bytes)?;
     let piece = Piece::own(alloc, bytes)?;
-    let size = piece.as_slice().len();
+    let size = piece.len();
     content.append(&piece, 0, size)?;
     Ok(content)
 }
@@ -77,7 +86,8 @@ pub fn are_given(alloc: Global) -> Result<bool, AllocError> {
 /// A content without bytes.
 #[tactic(auto, unfolding(gcs_chunks::specs::Content::bytes_of, gcs_chunks::specs::Content::no_content))]
 pub fn no_bytes(alloc: Global) -> Content
-    ensures { bytes_of result ≡ [] }
+    ensures bytes { bytes_of result ≡ [] }
+    ensures lies { (chunks : ChunksValue) → ContentLiesIn chunks result }
 {
     Content::empty(alloc)
 }

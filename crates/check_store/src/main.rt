@@ -6,6 +6,7 @@ mod bucket_commands;
 mod calls;
 mod commands;
 mod copies;
+mod finishes;
 mod joins;
 mod steps;
 mod upload_commands;
@@ -13,7 +14,9 @@ mod version_commands;
 
 use check_rows::{first_failure, read_rows, report, status};
 use copies::first_bad_copy;
+use finishes::{has_digests_of_all, is_copied_whole};
 use gcs_chunks::Chunks;
+use joins::{are_given, are_joined};
 use std::process::ExitCode;
 use std::rt::Files;
 use std::{env, fs, io};
@@ -26,7 +29,39 @@ fn main(rt: HostRuntime) -> io::Result<ExitCode> {
     }
     let copied = first_bad_copy(rt.alloc())?;
     all_ok &= report(&rt, "copies_equal_their_sources", "copies", copied)?;
+    all_ok &= run_cases(&rt, &Chunks::new(rt.alloc())?)?;
     Ok(status(all_ok))
+}
+
+// Prints a line for each case that is no row, and answers whether all are as they must be.
+fn run_cases(rt: &(impl Print + AllocGlobal), chunks: &Chunks) -> io::Result<bool> {
+    let alloc = rt.alloc();
+    let mut all_ok = tell(
+        rt,
+        "joined_contents_have_the_crc_of_all_their_bytes",
+        are_joined(alloc, chunks)?,
+    )?;
+    all_ok &= tell(
+        rt,
+        "names_give_their_texts_and_sources_are_copied",
+        are_given(alloc)?,
+    )?;
+    all_ok &= tell(
+        rt,
+        "a_content_of_three_pieces_has_the_bytes_of_its_copy",
+        is_copied_whole(alloc, chunks)?,
+    )?;
+    all_ok &= tell(
+        rt,
+        "a_finish_handed_digests_of_the_first_piece_has_those_of_all",
+        has_digests_of_all(alloc, chunks)?,
+    )?;
+    Ok(all_ok)
+}
+
+fn tell(rt: &impl Print, name: &str, is_so: bool) -> io::Result<bool> {
+    let failure = if is_so { None } else { Some("it isn't so") };
+    report(rt, name, "main", failure)
 }
 
 // Prints a line for each row of the file, and answers whether all rows are as they must be. Each row has a store of its own.

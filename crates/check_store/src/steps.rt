@@ -1,5 +1,5 @@
 //! What the lines of a row show: steps of one shard, and calls that need none.
-ghost use Rattle.gcs_meaning.specs.Step.{IsInRange};
+ghost use Rattle.check_store.specs.Commands.{IsAskable};
 
 use crate::answers::answer_text;
 use crate::calls::call_text;
@@ -29,7 +29,7 @@ impl<'a> Store<'a> {
     }
 
     fn step(&mut self, line: usize, moment: u64, command: Command) -> Result<String, AllocError>
-        requires { IsInRange command }
+        requires { IsAskable command }
     {
         match self.shard.apply(0, line as u64, moment, command) {
             Ok(answer) => {

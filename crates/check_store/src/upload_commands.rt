@@ -1,7 +1,8 @@
 //! The commands on resumable uploads of the bucket's object `a`, by their words. All bytes are zeros.
 ghost use Rattle.std.specs.Prelude.{IfOk};
-ghost use Rattle.std.specs.Option.{ForSome};
-ghost use Rattle.gcs_meaning.specs.Step.{IsInRange};
+ghost use Rattle.std.specs.Option.{IfSome};
+ghost use Rattle.gcs_chunks.specs.Content.{ChunksValue, ContentLiesIn};
+ghost use Rattle.check_store.specs.Commands.{IsAskable};
 
 use crate::commands::{ANY, tub};
 use crate::version_commands::{ANY_DIGEST, object, plain_meta};
@@ -17,7 +18,7 @@ pub fn upload_command(
     word: &str,
     numbers: &str,
 ) -> Result<Option<Command>, AllocError>
-    ensures { IfOk result (λ command. ForSome command IsInRange) }
+    ensures { IfOk result (λ command. IfSome command IsAskable) }
 {
     let new = Pre {
         generation_is: Some(0),
@@ -48,7 +49,7 @@ pub fn upload_command(
 }
 
 fn start(alloc: Global, pre: Pre, expect: Expect, total: Option<u64>) -> Result<Command, AllocError>
-    ensures { IfOk result IsInRange }
+    ensures { IfOk result IsAskable }
 {
     Ok(Command::Start {
         bucket: tub(alloc)?,
@@ -62,7 +63,7 @@ fn start(alloc: Global, pre: Pre, expect: Expect, total: Option<u64>) -> Result<
 
 // Of the numbers: the offset, how many bytes, and the total.
 fn append(alloc: Global, upload: u64, numbers: &str) -> Result<Command, AllocError>
-    ensures { IfOk result IsInRange }
+    ensures { IfOk result IsAskable }
 {
     let (offset, rest) = next_number(numbers);
     let (size, rest) = next_number(rest);
@@ -81,9 +82,11 @@ fn next_number(numbers: &str) -> (Option<u64>, &str) {
     (first.parse::<u64>().ok(), rest)
 }
 
-// So many zeros, and none where they are too many for one piece.
+/// So many zeros, and none where they are too many for one piece. `Err`: no memory.
 #[tactic(auto, unfolding(gcs_chunks::specs::Content::bytes_of, gcs_chunks::specs::Content::no_content))]
-fn zeros(alloc: Global, size: u64) -> Result<Content, AllocError> {
+pub fn zeros(alloc: Global, size: u64) -> Result<Content, AllocError>
+    ensures { IfOk result (λ made. (chunks : ChunksValue) → ContentLiesIn chunks made) }
+{
     let mut content = Content::empty(alloc);
     if size > 0 && size <= LONGEST_PIECE as u64 {
         let size = size as usize;

@@ -1,7 +1,7 @@
 //! The commands on the bucket's object `a`, by their words. All contents are empty.
 ghost use Rattle.std.specs.Prelude.{IfOk};
-ghost use Rattle.std.specs.Option.{ForSome};
-ghost use Rattle.gcs_meaning.specs.Step.{IsInRange};
+ghost use Rattle.std.specs.Option.{IfSome};
+ghost use Rattle.check_store.specs.Commands.{IsAskable};
 
 use crate::commands::{ANY, tub};
 use gcs_chunks::{Chunks, Content};
@@ -23,7 +23,7 @@ pub fn version_command(
     word: &str,
     number: Option<u64>,
 ) -> Result<Option<Command>, AllocError>
-    ensures { IfOk result (λ command. ForSome command IsInRange) }
+    ensures { IfOk result (λ command. IfSome command IsAskable) }
 {
     let wrong_crc = Expect {
         crc: Some(0xE306_9283),
@@ -49,7 +49,7 @@ fn plain_command(
     word: &str,
     generation: Option<u64>,
 ) -> Result<Option<Command>, AllocError>
-    ensures { IfOk result (λ command. ForSome command IsInRange) }
+    ensures { IfOk result (λ command. IfSome command IsAskable) }
 {
     let bucket = tub(alloc)?;
     let name = object(alloc)?;
@@ -104,7 +104,7 @@ fn whole_list(alloc: Global) -> PageQuery {
 
 // Of the object itself, twice, where the generation of the second source must be this.
 fn compose(alloc: Global, name: Name, generation_is: Option<u64>) -> Result<Command, AllocError>
-    ensures { IfOk result IsInRange }
+    ensures { IfOk result IsAskable }
 {
     let mut parts = List::new(alloc);
     parts.push(source(name.copy()?, None))?;
@@ -149,7 +149,7 @@ fn put(
     generation_is: Option<u64>,
     expect: Expect,
 ) -> Result<Command, AllocError>
-    ensures { IfOk result IsInRange }
+    ensures { IfOk result IsAskable }
 {
     Ok(Command::Put {
         bucket: tub(alloc)?,
@@ -171,7 +171,7 @@ fn change(
     custom_time: Option<u64>,
     event_hold: Set<bool>,
 ) -> Result<Command, AllocError>
-    ensures { IfOk result IsInRange }
+    ensures { IfOk result IsAskable }
 {
     let change = MetaChange {
         content_type: Set::Keep,

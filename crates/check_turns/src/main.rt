@@ -1,13 +1,15 @@
-//! An object on which callers take turns, by one thread and by two: a line a case that tells whether its history and its
-//! answers are what they must be.
+//! An object on which callers take turns, by one thread and by two, and pieces that two threads publish: a line a case that
+//! tells whether history, answers and bytes are what they must be.
 #![tactic(auto)]
 
 mod alone;
+mod publishing;
 mod tally;
 mod together;
 
 use alone::{on_one_thread, without_room};
 use check_rows::{report, status};
+use publishing::pieces_of_two_threads;
 use std::io;
 use std::process::ExitCode;
 use together::on_two_threads;
@@ -21,6 +23,9 @@ const NO_ROOM: &str = "5 and 7 back of 1.0 at 10 adds 5; ";
 /// The call that comes first, and 1,000 of each thread.
 const TOGETHER: &str = "2001 entries, 1001 and 1000, in order, sum 2001";
 
+/// The piece of the first thread, and behind it that of the second.
+const PIECES: &str = "aabb";
+
 fn main(rt: HostRuntime) -> io::Result<ExitCode> {
     let alloc = rt.alloc();
     let came = on_one_thread(&rt, alloc)?;
@@ -29,6 +34,13 @@ fn main(rt: HostRuntime) -> io::Result<ExitCode> {
     all_ok &= tell(&rt, "a call that finds no room", came.as_str(), NO_ROOM)?;
     let came = on_two_threads(&rt, alloc)?;
     all_ok &= tell(&rt, "two threads of 1,000 calls", came.as_str(), TOGETHER)?;
+    let came = pieces_of_two_threads(&rt, alloc)?;
+    all_ok &= tell(
+        &rt,
+        "a content of two threads' pieces",
+        came.as_str(),
+        PIECES,
+    )?;
     Ok(status(all_ok))
 }
 

@@ -1,8 +1,7 @@
 -- The insert of a bucket under a name that has none alive.
-use Rattle.std.proofs.Common.{◌≡◌, ◌∙◌, sym, ap, refl, subst, ℕ, List, Option, Some, None}
-use Rattle.std.specs.Prelude.{Bool, true, false, is_some}
+use Rattle.std.proofs.Common.{◌≡◌, ◌∙◌, sym, ap, refl, ℕ, List, Option, Some, None}
+use Rattle.std.specs.Prelude.{false, is_some}
 use mathlib.Core.Bool.{true≢false}
-use Rattle.gcs_meaning.specs.declared.command.Answer.{Answer}
 use Rattle.gcs_meaning.specs.declared.command.Answer.TheVariants.{Bucket as Shown}
 use Rattle.gcs_meaning.specs.declared.settings.Settings.{Settings}
 use Rattle.gcs_meaning.specs.declared.version.BucketRow.{BucketRow}

@@ -1,5 +1,6 @@
 pub mod Buried
 pub mod Commands
+pub mod Contents
 pub mod Desks
 pub mod Firsts
 pub mod Laws

@@ -6,6 +6,7 @@ use Rattle.std.specs.Cmp.Lexicographic.{slice_cmp}
 use Rattle.std.specs.declared.cmp.Ordering.{Ordering}
 use Rattle.std.specs.declared.cmp.Ordering.TheVariants.{Less, Equal, Greater}
 use Rattle.std.proofs.lemmas.Cmp.{nat_list_cmp_total}
+use Rattle.gcs_chunks.specs.Content.{ChunksValue}
 use Rattle.gcs_meaning.specs.declared.command.Command.{Command}
 use Rattle.gcs_meaning.specs.declared.command.Command.TheVariants.{BucketInsert, BucketRestore}
 use Rattle.gcs_meaning.specs.declared.command.Entry.{Entry}
@@ -66,5 +67,5 @@ replay_rises : (es : List Entry) (slots : Slots) → NamesRise slots → NamesRi
 replay_rises [] slots h = h
 replay_rises (e ∷ es) slots h = replay_rises es (shard_step slots e.moment e.command).1 (shard_rises slots e.moment e.command h)
 
-pub rising_from_shard : (slots : Slots) (history : List Entry) → IsShard slots history → NamesRise slots
-rising_from_shard slots history h = subst NamesRise (sym h.replayed) (replay_rises history [] tt)
+pub rising_from_shard : (chunks : ChunksValue) (slots : Slots) (history : List Entry) → IsShard chunks slots history → NamesRise slots
+rising_from_shard chunks slots history h = subst NamesRise (sym h.replayed) (replay_rises history [] tt)

@@ -10,6 +10,7 @@ use Rattle.std.specs.declared.cmp.Ordering.TheVariants.{Less, Equal, Greater}
 use Rattle.std.proofs.lemmas.Cmp.{alike_right, nat_list_cmp_total}
 use Rattle.std.proofs.lemmas.List.Sorted.{searchable_from_sorted}
 use Rattle.std.proofs.lemmas.Option.{slice_get-get_or}
+use Rattle.gcs_chunks.specs.Content.{ChunksValue}
 use Rattle.gcs_meaning.specs.declared.command.Answer.{Answer}
 use Rattle.gcs_meaning.specs.declared.command.Command.{Command}
 use Rattle.gcs_meaning.specs.declared.command.Command.TheVariants.{BucketInsert}
@@ -17,6 +18,7 @@ use Rattle.gcs_meaning.specs.declared.command.Entry.{Entry}
 use Rattle.gcs_meaning.specs.declared.settings.Settings.{Settings}
 use Rattle.gcs_meaning.specs.Slot.{Slot, fresh_slot}
 use Rattle.gcs_meaning.specs.Bounds.{AreWithin, IsSmall}
+use Rattle.gcs_meaning.specs.Contents.{CommandLiesIn, HistoryLiesIn, SlotLiesIn, SlotsLieIn}
 use Rattle.gcs_meaning.specs.History.{Slots, bucket_of, set_slot, first_step, shard_step, replay}
 use Rattle.gcs_meaning.specs.Step.{step}
 use Rattle.gcs_meaning.proofs.Bounded.{replay_within, small_within}
@@ -106,6 +108,10 @@ small_at [] i d within h = absurd (omega arith)
 small_at (p ∷ ps) zero d within h = h.0
 small_at (p ∷ ps) (suc i) d within h = small_at ps i d (omega arith) h.1
 
+-- and lies in the chunks
+pub lies_at : (chunks : ChunksValue) (slots : Slots) (i : ℕ) (d : List ℕ × Slot) → i < length slots → SlotsLieIn chunks slots → SlotLiesIn chunks (get_or slots i d).1
+lies_at chunks slots i d within h = at_of (λ (p : List ℕ × Slot). SlotLiesIn chunks p.1) slots i d within h
+
 -- a write of what a step leaves
 pub stepped_at : (slots : Slots) (i : ℕ) (p : List ℕ × Slot) (moment : ℕ) (command : Command) (answer : Answer) (slot : Slot) → i < length slots → p ≡ get_or slots i p → step p.1 moment command ≡ (answer, slot) → IsSteppedAt i moment command slots answer (slice_set slots i (p.0, slot))
 stepped_at slots i p moment command answer slot within is stepped = record {
@@ -126,8 +132,8 @@ pub small_from_within : (n : ℕ) (slots : Slots) → n ≤ 2 ^ 59 → AreWithin
 small_from_within n [] few h = tt
 small_from_within n (p ∷ ps) few h = (small_within n p.1 (omega (arith, few)) h.0, small_from_within n ps few h.1)
 
-pub small_from_shard : (slots : Slots) (history : List Entry) → IsShard slots history → AreSmall slots
-small_from_shard slots history h = small_from_within (length history) slots (omega (arith, h.few)) (subst (AreWithin (length history)) (sym h.replayed) (replay_within history))
+pub small_from_shard : (chunks : ChunksValue) (slots : Slots) (history : List Entry) → IsShard chunks slots history → AreSmall slots
+small_from_shard chunks slots history h = small_from_within (length history) slots (omega (arith, h.few)) (subst (AreWithin (length history)) (sym h.replayed) (replay_within history))
 
 -- an insert on a name without a slot makes it
 pub first_done : (name : List ℕ) (slots new : Slots) (place reading : ℕ) (command : Command) (bucket : List ℕ) (settings : Settings) (answer : Answer) (made : List ℕ × Slot)
@@ -139,8 +145,14 @@ first_done name slots new place reading command bucket settings answer made is g
     ∙ ap (λ s. (answer, s)) (gap.set_is made.1 ∙ ap (λ n. insert slots place (n, made.1)) (sym named) ∙ sym new-is)
 
 -- one more entry, with the slots that its step leaves
-pub shard_push : (slots new : Slots) (history : List Entry) (e : Entry) (answer : Answer) → slots ≡ replay history → length history + 1 < 2 ^ 59 → shard_step slots e.moment e.command ≡ (answer, new) → IsShard new (history ++ e ∷ [])
-shard_push slots new history e answer replayed few stepped = record {
+contents-push : (chunks : ChunksValue) (es : List Entry) (e : Entry) → HistoryLiesIn chunks es → CommandLiesIn chunks e.command → HistoryLiesIn chunks (es ++ e ∷ [])
+contents-push chunks [] e h lies = (lies, tt)
+contents-push chunks (first ∷ es) e h lies = (h.0, contents-push chunks es e h.1 lies)
+
+pub shard_push : (chunks : ChunksValue) (slots new : Slots) (history : List Entry) (e : Entry) (answer : Answer) → slots ≡ replay history → length history + 1 < 2 ^ 59 → HistoryLiesIn chunks history
+    → CommandLiesIn chunks e.command → shard_step slots e.moment e.command ≡ (answer, new) → IsShard chunks new (history ++ e ∷ [])
+shard_push chunks slots new history e answer replayed few contents lies stepped = record {
   replayed = sym (ap (λ r. r.1) stepped) ∙ ap (λ s. (shard_step s e.moment e.command).1) replayed ∙ sym (replay-push history e);
   few = omega (arith, length-append history (e ∷ []));
+  contents = contents-push chunks history e contents lies;
 }

@@ -1,19 +1,26 @@
--- Slots by name, as a shard keeps them.
+-- A shard, and slots by name, as it keeps them.
 use Rattle.std.specs.Prelude.{◌≡◌, ◌≤◌, ◌<◌, ◌^◌, ℕ, Bool, not, ◌||◌, List, [], ◌∷◌, ◌++◌, length, insert, slice_get, Some, None}
 use Rattle.std.specs.List.{AllByRecursion}
 use Rattle.std.specs.Ordering.{nat_cmp}
 use Rattle.std.specs.Cmp.Lexicographic.{slice_cmp}
 use Rattle.std.specs.declared.cmp.Ordering.TheVariants.{Less}
+use Rattle.gcs_chunks.specs.Content.{ChunksValue}
 use Rattle.gcs_meaning.specs.declared.command.Answer.{Answer}
 use Rattle.gcs_meaning.specs.declared.command.Command.{Command}
 use Rattle.gcs_meaning.specs.declared.command.Entry.{Entry}
 use Rattle.gcs_meaning.specs.Slot.{Slot}
 use Rattle.gcs_meaning.specs.Order.{is_below}
 use Rattle.gcs_meaning.specs.Bounds.{IsSmall}
+use Rattle.gcs_meaning.specs.Contents.{HistoryLiesIn}
 use Rattle.gcs_meaning.specs.Step.{step}
 use Rattle.gcs_meaning.specs.declared.version.BucketRow.{BucketRow}
 use Rattle.gcs_meaning.specs.History.{Slots, slot_of, with_slot, replay, shown_bucket}
 use Rattle.gcs_versions.specs.Rows.{map_at}
+
+-- the value of a shard: the chunks in which its contents lie, and its history
+pub record ShardValue : Type 0 where
+  pub chunks : ChunksValue
+  pub history : List Entry
 
 -- the slots rise strictly by name, in byte order
 abbrev pub NamesRise : Slots → Type 0
@@ -56,7 +63,8 @@ pub record IsSteppedAt (place moment : ℕ) (command : Command) (old : Slots) (a
   pub stepped : (p : List ℕ × Slot) → slice_get old place ≡ Some p → step p.1 moment command ≡ (answer, slot)
   pub new_is : new ≡ map_at place (with_second slot) old
 
--- the slots of a shard are those of its history, which has room for its numbers
-pub record IsShard (slots : Slots) (history : List Entry) : Type 0 where
+-- the slots of a shard are those of its history, which has room for its numbers and whose contents lie in the chunks
+pub record IsShard (chunks : ChunksValue) (slots : Slots) (history : List Entry) : Type 0 where
   pub replayed : slots ≡ replay history
   pub few : length history < 2 ^ 59
+  pub contents : HistoryLiesIn chunks history

@@ -1,6 +1,7 @@
 //! A bucket's slot: what is kept under its name, and the one call that changes it.
 ghost use Rattle.std.specs.Prelude.{◌≡◌, IfOk, OnErr, true, false, option_map};
 ghost use Rattle.gcs_index.specs.Looks.{AreLooks};
+ghost use Rattle.gcs_meaning.specs.Contents.{CommandLiesIn, SlotLiesIn};
 ghost use Rattle.gcs_meaning.specs.Fit.{IsFit};
 ghost use Rattle.gcs_meaning.specs.Slot.{bucket_row, fresh_slot};
 ghost use Rattle.gcs_meaning.specs.Bounds.{IsSmall};
@@ -85,6 +86,8 @@ impl Bucket {
     ) -> Result<Answer, AllocError>
         requires small { IsSmall self.old }
         requires in_range { IsOnSlot command.now }
+        requires lies { SlotLiesIn chunks.now self.old }
+        requires contents { CommandLiesIn chunks.now command.now }
         ensures done { IfOk result (λ answer. step self.old moment command.now ≡ (answer, self.new)) }
         ensures err { OnErr result (self.new ≡ self.old) }
         ensures fit { IsFit self.new }

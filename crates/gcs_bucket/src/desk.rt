@@ -1,8 +1,7 @@
 //! The desk of a program that shares its store with nobody.
 ghost use Rattle.std.specs.Prelude.{◌≡◌, ◌<◌, ℕ, [], IfOk};
-ghost use Rattle.gcs_meaning.specs.Desk.{AreLists, Moves};
-ghost use Rattle.gcs_meaning.specs.Step.{IsInRange};
-ghost use Rattle.gcs_bucket.specs.Desk.{AreOwn, history_at};
+ghost use Rattle.gcs_meaning.specs.Desk.{AreLists};
+ghost use Rattle.gcs_bucket.specs.Desk.{history_at, shard_at};
 
 use crate::shard::Shard;
 use gcs_chunks::{Chunks, Piece};
@@ -11,42 +10,46 @@ use std::alloc::{AllocError, Global};
 use std::marker::Model;
 use std::sync::Arc;
 
-/// Sixteen shards, all of whose entries are of caller 0, seen as their histories. What the caller
-/// has seen of a shard and its own entries there are both the shard's history.
+/// Sixteen shards over the same chunks, all of whose entries are of caller 0, seen as the chunks and what each shard is
+/// seen as. What the caller has seen of a shard and its own entries there are both the shard's history.
 #[derive(Drop)]
 pub struct PlainDesk<'c> {
     alloc: Global,
+    chunks: &'c Chunks,
     shards: Vec<Shard<'c>>,
 }
 
 impl<'c> Model for PlainDesk<'c> {
-    ghost use Rattle.std.specs.Prelude.{List};
-    ghost use Rattle.gcs_meaning.specs.declared.command.Entry.{Entry};
-    ghost use Rattle.gcs_bucket.specs.Desk.{AreOwn};
+    ghost use Rattle.gcs_bucket.specs.Desk.{AreOwn, DeskValue};
 
-    ghost Value = { List (List Entry) };
+    ghost Value = { DeskValue };
 
-    ghost view = { λ d. d.shards.items };
+    ghost view = { λ d. record { chunks = d.chunks.now; shards = d.shards.items } };
 
-    ghost invariant = { λ d. AreOwn d.shards.items };
+    ghost invariant = { λ d. AreOwn (record { chunks = d.chunks.now; shards = d.shards.items }) };
 }
 
 impl<'c> PlainDesk<'c> {
     /// Sixteen shards without an entry, whose contents are of these chunks. `Err`: no memory.
     pub fn new(alloc: Global, chunks: &'c Chunks) -> Result<PlainDesk<'c>, AllocError>
-        ensures { IfOk result (λ desk. (s : ℕ) → history_at desk s ≡ []) }
+        ensures empty { IfOk result (λ desk. (s : ℕ) → history_at desk s ≡ []) }
+        ensures chunks { IfOk result (λ desk. desk.chunks ≡ chunks.now) }
     {
         let mut shards = Vec::with_capacity(alloc, SHARDS as usize)?;
         for _ in 0..SHARDS {
             shards.push(Shard::new(alloc, chunks))?;
         }
-        Ok(PlainDesk { alloc, shards })
+        Ok(PlainDesk {
+            alloc,
+            chunks,
+            shards,
+        })
     }
 
     /// The shard of this number.
     pub fn shard(&self, number: u8) -> &Shard<'c>
         requires { number < 16 }
-        ensures { result.now ≡ history_at self.now number }
+        ensures { result.now ≡ shard_at self.now number }
     {
         &self.shards[number as usize]
     }
@@ -62,38 +65,25 @@ impl<'c> PlainDesk<'c> {
 }
 
 impl<'c> Desk for PlainDesk<'c> {
-    ghost caller = { λ d. 0 };
+    type Home = ();
+
+    ghost stands = { λ d. record { caller = 0; chunks = d.chunks; home = tt } };
 
     ghost seen = { λ d s. history_at d s };
 
     ghost mine = { λ d s. history_at d s };
 
     fn call(&mut self, shard: u8, moment: u64, command: Command) -> Result<Answer, Unheld> {
-        call_shard(&mut self.shards, shard as usize, moment, command)
+        let shard = &mut self.shards[shard as usize];
+        let number = shard.history().len() as u64;
+        let answer = match shard.apply(0, number, moment, command) {
+            Ok(answer) => answer,
+            Err(command) => return Err(Unheld { command }),
+        };
+        Ok(answer)
     }
 
     fn publish(&mut self, bytes: List<u8>) -> Result<Arc<Piece>, AllocError> {
         Piece::own(self.alloc, bytes.into_vec())
     }
-}
-
-fn call_shard(
-    shards: &mut Vec<Shard<'_>>,
-    place: usize,
-    moment: u64,
-    command: Command,
-) -> Result<Answer, Unheld>
-    requires place { place < 16 }
-    requires in_range { IsInRange command }
-    requires own { AreOwn shards.old.items }
-    ensures own { AreOwn shards.new.items }
-    ensures lists { Moves 0 (history_at shards.old.items) (history_at shards.old.items) (history_at shards.new.items) (history_at shards.new.items) place moment command result }
-{
-    let shard = &mut shards[place];
-    let number = shard.history().len() as u64;
-    let answer = match shard.apply(0, number, moment, command) {
-        Ok(answer) => answer,
-        Err(command) => return Err(Unheld { command }),
-    };
-    Ok(answer)
 }

@@ -1,8 +1,10 @@
 //! The finish of a resumable upload: its bytes become a version.
 ghost use Rattle.std.specs.Prelude.{◌≡◌, ◌<◌, ◌^◌, IfOk, OnErr};
 ghost use Rattle.std.specs.Option.{IfSome};
+ghost use Rattle.gcs_chunks.specs.Content.{ContentLiesIn};
 ghost use Rattle.gcs_index.specs.Looks.{AreLooks};
 ghost use Rattle.gcs_meaning.specs.Aging.{aged};
+ghost use Rattle.gcs_meaning.specs.Contents.{HashedLiesIn, SlotLiesIn};
 ghost use Rattle.gcs_meaning.specs.Finish.{digested_of, done_state, finish_step, is_total};
 ghost use Rattle.gcs_meaning.specs.Moment.{effective_moment};
 ghost use Rattle.gcs_meaning.specs.Uploads.{IsCompleteIf, kept_of, upload_of};
@@ -37,6 +39,8 @@ impl Slot {
         steps: &mut Steps<L>,
     ) -> Result<Answer, AllocError>
         requires ready { IsReady (value_of self.old) }
+        requires lies { SlotLiesIn chunks.now (value_of self.old) }
+        requires contents { HashedLiesIn chunks.now hashed.now }
         ensures done { IfOk result (λ answer.
             let t = effective_moment self.old.last_moment reading in
             finish_step (aged (value_of self.old) t) t number ≡ (answer, value_of self.new)) }
@@ -69,6 +73,8 @@ impl Slot {
     ) -> Result<Result<Finished, Answer>, AllocError>
         requires ready { IsReady (value_of self.now) }
         requires moment { moment < 2 ^ 62 }
+        requires lies { SlotLiesIn chunks.now (value_of self.now) }
+        requires contents { HashedLiesIn chunks.now hashed.now }
         ensures decided { IfOk result (λ decision.
             finish_step (aged (value_of self.now) moment) moment number ≡ decided_finish decision moment number (aged (value_of self.now) moment)) }
         ensures next { IfOk result (λ decision. IfOk decision (λ finished. IsFinishing finished number (aged (value_of self.now) moment))) }
@@ -142,6 +148,8 @@ fn is_whole(upload: &Upload) -> bool
 // The upload's content with its digests: those that were handed in, where they are of the same bytes, or else computed
 // here. `Err`: no memory.
 fn digest(upload: &Upload, handed: &Hashed, chunks: &Chunks) -> Result<Hashed, AllocError>
+    requires kept { ContentLiesIn chunks.now upload.now.content }
+    requires handed { HashedLiesIn chunks.now handed.now }
     ensures { IfOk result (λ made. made ≡ digested_of upload.now) }
 {
     let content = upload.content.copy()?;

@@ -1,6 +1,7 @@
 //! A shard: its slots, and the history that they come from.
 ghost use Rattle.std.specs.Prelude.{◌≡◌, ◌<◌, ◌+◌, ◌^◌, [], ◌∷◌, ◌++◌, IfOk, IfErr, OnErr, OnOk, length, vec_capacity, vec_len};
 ghost use Rattle.std.specs.Option.{option_copied};
+ghost use Rattle.gcs_meaning.specs.Contents.{AnswerLiesIn, CommandLiesIn};
 ghost use Rattle.gcs_meaning.specs.History.{answer_of, replay, slot_of};
 ghost use Rattle.gcs_meaning.specs.Step.{IsInRange};
 
@@ -15,7 +16,8 @@ use std::sync::ledger::Blank;
 // A history stays below 2^59 entries, so that no number of a slot wraps.
 const MOST_ENTRIES: usize = 0x07FF_FFFF_FFFF_FFFF;
 
-/// The slots of a shard and its history, seen as the history: the slots are always the replay of it.
+/// The slots of a shard and its history, seen as the history and the chunks in which its contents lie: the slots are
+/// always the replay of it.
 #[derive(Drop)]
 pub struct Shard<'c> {
     chunks: &'c Chunks,
@@ -24,21 +26,19 @@ pub struct Shard<'c> {
 }
 
 impl<'c> Model for Shard<'c> {
-    ghost use Rattle.std.specs.Prelude.{List};
-    ghost use Rattle.gcs_meaning.specs.declared.command.Entry.{Entry};
-    ghost use Rattle.gcs_bucket.specs.Shard.{IsShard};
+    ghost use Rattle.gcs_bucket.specs.Shard.{IsShard, ShardValue};
 
-    ghost Value = { List Entry };
+    ghost Value = { ShardValue };
 
-    ghost view = { λ s. s.history.items };
+    ghost view = { λ s. record { chunks = s.chunks.now; history = s.history.items } };
 
-    ghost invariant = { λ s. IsShard s.slots.items s.history.items };
+    ghost invariant = { λ s. IsShard s.chunks.now s.slots.items s.history.items };
 }
 
 impl<'c> Shard<'c> {
     /// A shard without an entry, whose contents are of these chunks.
     pub fn new(alloc: Global, chunks: &'c Chunks) -> Shard<'c>
-        ensures { result ≡ [] }
+        ensures { result ≡ record { chunks = chunks.now; history = [] } }
     {
         Shard {
             chunks,
@@ -49,14 +49,14 @@ impl<'c> Shard<'c> {
 
     /// The slot of a name, where it had an insert.
     pub fn slot(&self, name: &BucketName) -> Option<&Bucket>
-        ensures { option_copied result ≡ slot_of name.now (replay self.now) }
+        ensures { option_copied result ≡ slot_of name.now (replay self.now.history) }
     {
         find_slot(&self.slots, name)
     }
 
     /// The entries, the first one first.
     pub fn history(&self) -> &[Entry]
-        ensures { result.now ≡ self.now }
+        ensures { result.now ≡ self.now.history }
     {
         &self.history
     }
@@ -72,11 +72,13 @@ impl<'c> Shard<'c> {
         moment: u64,
         command: Command,
     ) -> Result<Answer, Command>
-        requires { IsInRange command }
-        ensures entry { OnOk result (self.new ≡ self.old ++ record { caller = caller; number = number; moment = moment; command = command } ∷ []) }
-        ensures few { OnOk result (length self.new < 2 ^ 59) }
-        ensures answer { IfOk result (λ answer. answer ≡ answer_of self.old moment command) }
-
+        requires in_range { IsInRange command }
+        requires contents { CommandLiesIn self.old.chunks command }
+        ensures entry { OnOk result (self.new.history ≡ self.old.history ++ record { caller = caller; number = number; moment = moment; command = command } ∷ []) }
+        ensures few { OnOk result (length self.new.history < 2 ^ 59) }
+        ensures answer { IfOk result (λ answer. answer ≡ answer_of self.old.history moment command) }
+        ensures lies { IfOk result (λ answer. AnswerLiesIn self.old.chunks answer) }
+        ensures chunks { self.new.chunks ≡ self.old.chunks }
         ensures back { IfErr result (λ back. back ≡ command) }
         ensures unchanged { OnErr result (self.new ≡ self.old) }
     {

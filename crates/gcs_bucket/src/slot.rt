@@ -2,6 +2,7 @@
 ghost use Rattle.std.specs.Prelude.{◌≡◌, ◌≤◌, ℕ, List, IfOk, OnErr, OnOk, true, false, vec_len, vec_capacity};
 ghost use Rattle.gcs_index.specs.Looks.{AreLooks};
 ghost use Rattle.gcs_meaning.specs.Aging.{aged};
+ghost use Rattle.gcs_meaning.specs.Contents.{CommandLiesIn, SlotLiesIn};
 ghost use Rattle.gcs_meaning.specs.Slot.{fresh_slot};
 ghost use Rattle.gcs_meaning.specs.Step.{step, IsOnSlot};
 ghost use Rattle.gcs_bucket.specs.Alive.{CanPut, CanRetire};
@@ -89,6 +90,8 @@ impl Slot {
     ) -> Result<Answer, AllocError>
         requires ready { IsReady (value_of self.old) }
         requires in_range { IsOnSlot command.now }
+        requires lies { SlotLiesIn chunks.now (value_of self.old) }
+        requires contents { CommandLiesIn chunks.now command.now }
         ensures done { IfOk result (λ answer. step (value_of self.old) reading command.now ≡ (answer, value_of self.new)) }
         ensures err { OnErr result (value_of self.new ≡ value_of self.old) }
         ensures looks { is_list command.now ≡ false → AreLooks (searches_of command.now) (row_count (value_of self.old)) steps.old steps.new }
@@ -207,6 +210,8 @@ impl Slot {
     ) -> Result<Answer, AllocError>
         requires ready { IsReady (value_of self.old) }
         requires upload { IsOnUpload command.now }
+        requires lies { SlotLiesIn chunks.now (value_of self.old) }
+        requires contents { CommandLiesIn chunks.now command.now }
         ensures done { IfOk result (λ answer. step (value_of self.old) reading command.now ≡ (answer, value_of self.new)) }
         ensures err { OnErr result (value_of self.new ≡ value_of self.old) }
         ensures looks { AreLooks (searches_of command.now) (row_count (value_of self.old)) steps.old steps.new }

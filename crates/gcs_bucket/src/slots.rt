@@ -1,6 +1,7 @@
 //! The slots of a shard, in a plain vector that rises by name. A search halves it.
 ghost use Rattle.std.specs.Prelude.{◌≡◌, ◌≤◌, ◌<◌, IfOk, IfErr, OnErr, insert, length, vec_capacity, vec_len};
 ghost use Rattle.std.specs.Option.{option_copied};
+ghost use Rattle.gcs_meaning.specs.Contents.{CommandLiesIn, SlotsLieIn};
 ghost use Rattle.gcs_meaning.specs.History.{first_step, shard_step, slot_of};
 ghost use Rattle.gcs_meaning.specs.Slot.{fresh_slot};
 ghost use Rattle.gcs_meaning.specs.Step.{step, IsInRange, IsOnSlot};
@@ -41,6 +42,8 @@ pub fn step_slots<L: Ledger>(
     requires rise { NamesRise slots.old.items }
     requires small { AreSmall slots.old.items }
     requires in_range { IsInRange command.now }
+    requires lies { SlotsLieIn chunks.now slots.old.items }
+    requires contents { CommandLiesIn chunks.now command.now }
     ensures done { IfOk result (λ answer. shard_step slots.old.items moment command.now ≡ (answer, slots.new.items)) }
     ensures err { OnErr result (slots.new.items ≡ slots.old.items) }
 {
@@ -74,6 +77,8 @@ fn step_at<L: Ledger>(
     requires place { place < length slots.old.items }
     requires small { AreSmall slots.old.items }
     requires in_range { IsOnSlot command.now }
+    requires lies { SlotsLieIn chunks.now slots.old.items }
+    requires contents { CommandLiesIn chunks.now command.now }
     ensures done { IfOk result (λ answer. IsSteppedAt place moment command.now slots.old.items answer slots.new.items) }
     ensures err { OnErr result (slots.new.items ≡ slots.old.items) }
 {
@@ -93,6 +98,7 @@ fn first_at<L: Ledger>(
 ) -> Result<Answer, AllocError>
     requires gap { IsGapAt name.now slots.old.items place }
     requires in_range { IsOnSlot command.now }
+    requires contents { CommandLiesIn chunks.now command.now }
     ensures done { IfOk result (λ answer. first_step name.now slots.old.items moment command.now ≡ (answer, slots.new.items)) }
     ensures err { OnErr result (slots.new.items ≡ slots.old.items) }
 {
@@ -116,6 +122,7 @@ fn first_at<L: Ledger>(
 }
 
 // A name with its slot after a first command.
+#[tactic(auto, using(crate::proofs::Contents::fresh_lies))]
 fn make_slot<L: Ledger>(
     alloc: Global,
     name: &BucketName,
@@ -124,7 +131,8 @@ fn make_slot<L: Ledger>(
     chunks: &Chunks,
     steps: &mut Steps<L>,
 ) -> Result<(Answer, (BucketName, Bucket)), AllocError>
-    requires { IsOnSlot command.now }
+    requires in_range { IsOnSlot command.now }
+    requires contents { CommandLiesIn chunks.now command.now }
     ensures name { IfOk result (λ made. made.1.0 ≡ name.now) }
     ensures done { IfOk result (λ made. step fresh_slot moment command.now ≡ (made.0, made.1.1)) }
 {

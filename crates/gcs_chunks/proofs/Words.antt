@@ -1,13 +1,12 @@
 -- What the words of a content say of its bytes, for this crate and for those above it.
-use Rattle.std.proofs.Common.{◌≡◌, ◌<◌, ◌≤◌, refl, sym, ap, ap₂, ◌∙◌, arith, ℕ, ◌+◌, ◌-◌, Bool, true, false, nat_lt, List, [], ◌∷◌, ◌++◌, drop, take, length, get_or}
+use Rattle.std.proofs.Common.{◌≡◌, ◌<◌, ◌≤◌, refl, sym, ap, ap₂, ◌∙◌, arith, ℕ, ◌+◌, ◌-◌, Bool, true, false, nat_lt, List, [], ◌∷◌, ◌++◌, drop, take, length}
 use Rattle.std.specs.Prelude.{slice_range, if◌then◌else◌, min}
 use Rattle.std.proofs.lemmas.Bool.{ltb-true, ltb-false}
 use Rattle.std.proofs.lemmas.List.{append_assoc, append-nil, drop-append-le, drop-drop, drop-take, length-drop}
 use Rattle.std.proofs.lemmas.List.{length-take}
 use Rattle.std.proofs.lemmas.List.{take-take, length-take-le}
-use Rattle.std.proofs.Math.Seq.{drop-append-add, drop-nil, drop-cons, take-add, take-append_seam, drop-append_seam}
-use Rattle.std.proofs.Math.Numerals.{add-one}
-use Rattle.gcs_chunks.specs.Content.{Chunk, Part, Whole, bytes_of, bytes_of_piece, joined, no_content, part_bytes, parts_bytes, part_of, rest_parts}
+use Rattle.std.proofs.Math.Seq.{drop-append-add, drop-nil, take-add, take-append_seam, drop-append_seam}
+use Rattle.gcs_chunks.specs.Content.{Chunk, ChunksValue, ContentLiesIn, Part, PartsLieIn, PieceLiesIn, Whole, bytes_of, bytes_of_piece, joined, no_content, part_bytes, parts_bytes, part_of, rest_of, rest_parts}
 
 -- the content without bytes has none
 pub bytes_of-no_content : bytes_of no_content ≡ []
@@ -70,17 +69,6 @@ pub bytes_of-part_of : (piece : Chunk) (from to : ℕ) → bytes_of (part_of pie
 unfolding bytes_of part_of bytes_of_piece
 bytes_of-part_of piece from to = by_order (nat_lt from to) piece from to refl
 
--- the part at a place and those behind it
-pub parts_bytes-at : (parts : List Part) (i : ℕ) (part : Part) → i < length parts → part ≡ get_or parts i part
-    → parts_bytes (drop i parts) ≡ part_bytes part ++ parts_bytes (drop (i + 1) parts)
-parts_bytes-at parts i part within is =
-    ap parts_bytes (drop-cons parts i part within) ∙ rw (add-one, ← is) refl
-
--- what is skipped behind a part
-pub skip_past : (first rest : List ℕ) (skip : ℕ) → length first ≤ skip → drop (skip - length first) rest ≡ drop skip (first ++ rest)
-skip_past first rest skip past =
-    sym (drop-append-add first rest (skip - length first)) ∙ ap (λ k. drop k (first ++ rest)) (omega (arith, past))
-
 -- the rest of a part is what stands at its place
 pub rest_stands : (first rest : List ℕ) (skip : ℕ) → skip < length first → drop skip first ≡ take (length (drop skip first)) (drop skip (first ++ rest))
 rest_stands first rest skip within =
@@ -137,3 +125,45 @@ pub stands_short : (bytes here : List ℕ) (at : ℕ) → here ≡ take (length 
 stands_short bytes here at is =
     let size : length here ≡ min (length here) (length (drop at bytes)) = ap length is ∙ length-take (length here) (drop at bytes) in
     omega (arith, size, length-drop at bytes)
+
+-- the content without bytes lies in every chunks
+pub lies_nothing : (chunks : ChunksValue) → ContentLiesIn chunks no_content
+unfolding ContentLiesIn no_content
+lies_nothing chunks = tt
+
+-- the parts of two lists that lie in the chunks
+pub parts_lie-append : (chunks : ChunksValue) (xs ys : List Part) → PartsLieIn chunks xs → PartsLieIn chunks ys → PartsLieIn chunks (xs ++ ys)
+parts_lie-append chunks [] ys lies lies' = lies'
+parts_lie-append chunks (x ∷ xs) ys lies lies' = (lies.0, parts_lie-append chunks xs ys lies.1 lies')
+
+-- two contents that lie in the chunks, one after the other
+pub lies_joined : (chunks : ChunksValue) (first second : Whole) → ContentLiesIn chunks first → ContentLiesIn chunks second → ContentLiesIn chunks (joined first second)
+unfolding ContentLiesIn joined
+lies_joined chunks first second lies lies' = parts_lie-append chunks first.parts second.parts lies lies'
+
+parts_lie-by : (b : Bool) (chunks : ChunksValue) (n : ℕ) (part : Part) (parts : List Part)
+    → PieceLiesIn chunks part.chunk → ((m : ℕ) → PartsLieIn chunks (rest_parts m parts))
+    → PartsLieIn chunks (if b then record part { from = part.from + n } ∷ rest_parts 0 parts else rest_parts (n - length (part_bytes part)) parts)
+parts_lie-by true chunks n part parts here rest = (here, rest 0)
+parts_lie-by false chunks n part parts here rest = rest (n - length (part_bytes part))
+
+-- parts that lie in the chunks, without their first n bytes
+pub parts_lie-rest : (chunks : ChunksValue) (parts : List Part) → PartsLieIn chunks parts → (n : ℕ) → PartsLieIn chunks (rest_parts n parts)
+parts_lie-rest chunks [] lies n = tt
+parts_lie-rest chunks (part ∷ parts) lies n =
+    parts_lie-by (nat_lt n (length (part_bytes part))) chunks n part parts lies.0 (parts_lie-rest chunks parts lies.1)
+
+-- the rest of a content that lies in the chunks
+pub lies_rest : (chunks : ChunksValue) (content : Whole) (from : ℕ) → ContentLiesIn chunks content → ContentLiesIn chunks (rest_of content from)
+unfolding ContentLiesIn rest_of
+lies_rest chunks content from lies = parts_lie-rest chunks content.parts lies from
+
+part_lies-by : (b : Bool) (chunks : ChunksValue) (piece : Chunk) (from to : ℕ) → PieceLiesIn chunks piece
+    → PartsLieIn chunks (if b then record { chunk = piece; from = from; to = to } ∷ [] else [])
+part_lies-by true chunks piece from to lies = (lies, tt)
+part_lies-by false chunks piece from to lies = tt
+
+-- a part of a piece that lies in the chunks
+pub lies_part : (chunks : ChunksValue) (piece : Chunk) (from to : ℕ) → PieceLiesIn chunks piece → ContentLiesIn chunks (part_of piece from to)
+unfolding ContentLiesIn part_of
+lies_part chunks piece from to lies = part_lies-by (nat_lt from to) chunks piece from to lies

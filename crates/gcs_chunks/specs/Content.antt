@@ -1,15 +1,31 @@
 -- A content, and the words by which it is spoken of.
-use Rattle.std.specs.Prelude.{ℕ, ◌+◌, ◌-◌, nat_lt, List, [], ◌∷◌, ◌++◌, length, slice_range, if◌then◌else◌}
+use Rattle.std.specs.Prelude.{◌≡◌, ℕ, ◌+◌, ◌-◌, nat_lt, List, [], ◌∷◌, ◌++◌, length, map, slice_range, if◌then◌else◌}
+use Rattle.std.specs.List.{AllByRecursion}
+use Rattle.boxcar.specs.Table.{Shelves, id_at}
 
--- the value of a piece. Only this crate opens it
+-- the value of `Chunks`, by which crates above name it
+abbrev pub ChunksValue : Type 0
+ChunksValue = Shelves
+
+-- the value of a piece, and where it was published, if it was. Only this crate opens it
 pub record Chunk : Type 0 where
   pub bytes : List ℕ
+  pub places : List (ℕ × ℕ)
 
 -- a part of a piece, from a place up to another
 pub record Part : Type 0 where
   pub chunk : Chunk
   pub from : ℕ
   pub to : ℕ
+
+-- a part at its place in a content: where it ends there
+pub record Placed : Type 0 where
+  pub part : Part
+  pub end : ℕ
+
+-- the parts of spans
+abbrev pub parts_in : List Placed → List Part
+parts_in spans = map (λ (span : Placed). span.part) spans
 
 -- the value of a content. Only this crate opens it
 pub record Whole : Type 0 where
@@ -27,6 +43,11 @@ part_bytes part = slice_range part.chunk.bytes part.from part.to
 abbrev pub parts_bytes : List Part → List ℕ
 parts_bytes [] = []
 parts_bytes (part ∷ parts) = part_bytes part ++ parts_bytes parts
+
+-- the spans stand one after the other, behind n bytes
+abbrev pub AreEnds : ℕ → List Placed → Type 0
+AreEnds n [] = Unit {0}
+AreEnds n (span ∷ spans) = (span.end ≡ n + length (part_bytes span.part)) × AreEnds span.end spans
 
 -- the bytes of a content
 unfoldable pub bytes_of : Whole → List ℕ
@@ -55,3 +76,15 @@ rest_of content from = record { parts = rest_parts from content.parts }
 unfoldable pub part_of : Chunk → ℕ → ℕ → Whole
 part_of piece from to =
     record { parts = if nat_lt from to then record { chunk = piece; from = from; to = to } ∷ [] else [] }
+
+-- the piece was published in these chunks, if it was published
+unfoldable pub PieceLiesIn : ChunksValue → Chunk → Type 0
+PieceLiesIn chunks piece = AllByRecursion (λ (place : ℕ × ℕ). place.1 ≡ id_at chunks.buckets place.0) piece.places
+
+-- each part is of a piece that lies in these chunks
+abbrev pub PartsLieIn : ChunksValue → List Part → Type 0
+PartsLieIn chunks parts = AllByRecursion (λ (part : Part). PieceLiesIn chunks part.chunk) parts
+
+-- the content is made of pieces that lie in these chunks
+unfoldable pub ContentLiesIn : ChunksValue → Whole → Type 0
+ContentLiesIn chunks content = PartsLieIn chunks content.parts

@@ -75,8 +75,9 @@ impl Framer {
         })
     }
 
-    /// How many bytes of content come next.
-    fn content_left(&self) -> u64
+    /// How many bytes of content come next: what is left of the message's, or where it comes in chunks, of the chunk's.
+    /// 0 outside a content.
+    pub fn content_left(&self) -> u64
         ensures { result ≡ content_left self.now self.now.state }
     {
         match self.state {

@@ -2,15 +2,17 @@
 //!
 //! Each tells its content where it can, and counts its failures, so that a contract above can say
 //! of a failure that the outside caused it. There is one of each in memory, and one over what the
-//! machine has.
+//! machine has. At a gate a test can hold a worker up.
 #![tactic(auto)]
 
 mod clock;
 mod failing;
+mod gate;
 mod sink;
 mod source;
 
 pub use clock::{Clock, ListClock, SystemClock};
+pub use gate::{Gate, Place, QuietGate};
 pub use sink::{MemSink, Sink, StdSink};
 pub use source::{MemSource, Source, StdSource};
 

@@ -50,17 +50,17 @@ abbrev pub IfRefused : (Answer × Slot → Type 0) → Slot → Type 0
 IfRefused P slot = (reason : Reason) → P (Refused reason, slot)
 
 -- the three words of which the commands are made
-alive_cases : (P : Answer × Slot → Type 0) (alive : Option State) (slot : Slot) (does : State → Answer × Slot) → IfRefused P slot
+pub alive_cases : (P : Answer × Slot → Type 0) (alive : Option State) (slot : Slot) (does : State → Answer × Slot) → IfRefused P slot
     → ((s : State) → alive ≡ Some s → P (does s)) → P (on_alive alive slot does)
 alive_cases P None slot does refused done = refused NoBucket
 alive_cases P (Some s) slot does refused done = done s refl
 
-found_cases : (P : Answer × Slot → Type 0) (found : Option Row) (slot : Slot) (does : Row → Answer × Slot) → IfRefused P slot
+pub found_cases : (P : Answer × Slot → Type 0) (found : Option Row) (slot : Slot) (does : Row → Answer × Slot) → IfRefused P slot
     → ((row : Row) → found ≡ Some row → P (does row)) → P (on_found found slot does)
 found_cases P None slot does refused done = refused NoObject
 found_cases P (Some row) slot does refused done = done row refl
 
-unless_cases : (P : Answer × Slot → Type 0) (refusal : Option Reason) (slot : Slot) (does : Answer × Slot) → IfRefused P slot
+pub unless_cases : (P : Answer × Slot → Type 0) (refusal : Option Reason) (slot : Slot) (does : Answer × Slot) → IfRefused P slot
     → (refusal ≡ None → P does) → P (unless refusal slot does)
 unless_cases P (Some reason) slot does refused done = refused reason
 unless_cases P None slot does refused done = done refl

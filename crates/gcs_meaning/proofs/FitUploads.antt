@@ -35,7 +35,7 @@ all-started P number upload (e ∷ es) new same h = by (nat_cmp number e.0) (all
     by Greater rest = (h.0, rest)
 
 -- the upload of a number becomes another one
-all-with_upload : (P : ℕ × Upload → Type 0) (number : ℕ) (found after : Upload) (uploads : UploadMap) → upload_of number uploads ≡ Some found
+pub all-with_upload : (P : ℕ × Upload → Type 0) (number : ℕ) (found after : Upload) (uploads : UploadMap) → upload_of number uploads ≡ Some found
     → ((numbered : ℕ × Upload) → numbered.1 ≡ found → P numbered → P (numbered.0, after)) → AllByRecursion P uploads → AllByRecursion P (with_upload number after uploads)
 all-with_upload P number found after [] is becomes h = h
 all-with_upload P number found after (e ∷ es) is becomes h = by (is_number number e.0) is (λ later. all-with_upload P number found after es later becomes h.1)
@@ -49,7 +49,7 @@ all-with_upload P number found after (e ∷ es) is becomes h = by (is_number num
     by false here rest = (h.0, rest here)
 
 -- a call on one of them
-all-called : (P : ℕ × Upload → Type 0) (call : Upload → Outcome × Upload) (number : ℕ) (uploads : UploadMap) (found : Option Upload) → upload_of number uploads ≡ found
+pub all-called : (P : ℕ × Upload → Type 0) (call : Upload → Outcome × Upload) (number : ℕ) (uploads : UploadMap) (found : Option Upload) → upload_of number uploads ≡ found
     → ((numbered : ℕ × Upload) → P numbered → P (numbered.0, (call numbered.1).1)) → AllByRecursion P uploads → AllByRecursion P (called_at found call number uploads).1
 all-called P call number uploads None is each h = h
 all-called P call number uploads (Some upload) is each h =

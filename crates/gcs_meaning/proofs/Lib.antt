@@ -3,6 +3,7 @@ pub mod Apart
 pub mod Bounded
 pub mod Cases
 pub mod Chosen
+pub mod Contents
 pub mod Counting
 pub mod Covering
 pub mod Everywhere
@@ -26,3 +27,5 @@ pub mod SameSettings
 pub mod Slices
 pub mod Softly
 pub mod Staying
+pub mod UploadsLie
+pub mod VersionsLie

@@ -1,6 +1,7 @@
--- What a caller of the store knows: in each shard the history that it has seen, and its own entries in it.
+-- What a caller of the store knows: what no call changes, and in each shard the history that it has seen, and its own entries in it.
 use Rattle.std.specs.Prelude.{◌≡◌, ◌≢◌, ℕ, ◌+◌, nat_eq, List, [], ◌∷◌, ◌++◌, length, Option, Some, None, if◌then◌else◌, Result, Ok, Err}
 use Rattle.std.specs.List.{AllByRecursion}
+use Rattle.gcs_chunks.specs.Content.{ChunksValue}
 use Rattle.gcs_meaning.specs.declared.command.Answer.{Answer}
 use Rattle.gcs_meaning.specs.declared.command.Command.{Command}
 use Rattle.gcs_meaning.specs.declared.command.Command.TheVariants.{BucketList}
@@ -8,6 +9,12 @@ use Rattle.gcs_meaning.specs.declared.command.Entry.{Entry}
 use Rattle.gcs_meaning.specs.declared.desk.Unheld.{Unheld}
 use Rattle.gcs_meaning.specs.Moment.{shard_number}
 use Rattle.gcs_meaning.specs.History.{AreDistinct, answer_of, bucket_of}
+
+-- what no call of a desk changes: the caller's number, the chunks in which its contents lie, and the desk's home
+pub record Standing (H : Type 0) : Type 0 where
+  pub caller : ℕ
+  pub chunks : ChunksValue
+  pub home : H
 
 -- a history for each shard
 abbrev pub Histories : Type 0

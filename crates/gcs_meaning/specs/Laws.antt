@@ -1,5 +1,6 @@
 -- Laws over every slot, history and command.
 use Rattle.std.specs.Prelude.{◌≡◌, ◌≤◌, ◌+◌, ◌^◌, ℕ, Bool, true, false, List, length, Some}
+use Rattle.gcs_chunks.specs.Content.{ChunksValue}
 use Rattle.gcs_meaning.specs.declared.command.Answer.{Answer}
 use Rattle.gcs_meaning.specs.declared.command.Answer.TheVariants.{Bucket, Buckets, Empty, Object, Page as Paged, Started, Kept, Complete, Cancelled, Refused}
 use Rattle.gcs_meaning.specs.declared.command.Command.{Command}
@@ -16,7 +17,8 @@ use Rattle.gcs_meaning.specs.Slot.{State, Slot, fresh_slot}
 use Rattle.gcs_meaning.specs.Fit.{IsFit}
 use Rattle.gcs_meaning.specs.Keeping.{IsOneOf, buckets_of, IsCovered, IsKept, IsReadableIn}
 use Rattle.gcs_meaning.specs.Step.{step}
-use Rattle.gcs_meaning.specs.History.{AnswersAt, AreDistinct, answer_at, answer_of, replay, slot_of}
+use Rattle.gcs_meaning.specs.Contents.{AnswerLiesIn, CommandLiesIn, HistoryLiesIn, SlotLiesIn, SlotsLieIn}
+use Rattle.gcs_meaning.specs.History.{AnswersAt, AreDistinct, Slots, answer_at, answer_of, replay, shard_step, slot_of}
 use Rattle.gcs_meaning.specs.Bounds.{IsSmall, IsWithin}
 use Rattle.gcs_meaning.specs.Runs.{slot_after, AreBefore}
 use Rattle.gcs_meaning.specs.Making.{made_in, IsRising, NewAreAbove}
@@ -91,3 +93,12 @@ pub record AnswersFit : Type 0 where
   pub kinds : (before : List Entry) (moment : ℕ) (command : Command) → is_answer_to command (answer_of before moment command) ≡ true
   pub found : (history : List Entry) (caller number moment : ℕ) (command : Command) (a : Answer) → AreDistinct history
       → AnswersAt history caller number moment command a → answer_at history caller number ≡ Some a
+
+-- what a step answers and leaves lies in the chunks in which the slot and the command lie; so does it on the slots of a shard, and
+-- so do the slots of a history whose commands lie in them
+pub record ContentsStay : Type 0 where
+  pub slot : (chunks : ChunksValue) (slot : Slot) (moment : ℕ) (command : Command) → SlotLiesIn chunks slot → CommandLiesIn chunks command
+      → AnswerLiesIn chunks (step slot moment command).0 × SlotLiesIn chunks (step slot moment command).1
+  pub shard : (chunks : ChunksValue) (slots : Slots) (moment : ℕ) (command : Command) → SlotsLieIn chunks slots → CommandLiesIn chunks command
+      → AnswerLiesIn chunks (shard_step slots moment command).0 × SlotsLieIn chunks (shard_step slots moment command).1
+  pub replayed : (chunks : ChunksValue) (history : List Entry) → HistoryLiesIn chunks history → SlotsLieIn chunks (replay history)

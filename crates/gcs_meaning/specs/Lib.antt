@@ -38,6 +38,7 @@ pub mod Fit
 pub mod Keeping
 pub mod History
 pub mod Bounds
+pub mod Contents
 pub mod Runs
 pub mod Making
 pub mod Apart

@@ -1,6 +1,6 @@
 //! A content with its digests.
 ghost use Rattle.std.specs.Prelude.{◌≡◌, ◌<◌, ◌+◌, ◌^◌, length, true, false, OnErr, OnOk};
-ghost use Rattle.gcs_chunks.specs.Content.{bytes_of, no_content};
+ghost use Rattle.gcs_chunks.specs.Content.{bytes_of, no_content, ContentLiesIn};
 ghost use Rattle.gcs_crc.specs.Crc.{crc};
 ghost use Rattle.gcs_crc.specs.Digests.{StandsAfter};
 ghost use Rattle.gcs_meaning.specs.Content.{bytes_in, md5_if, with_whole};
@@ -45,6 +45,7 @@ impl Model for Hashed {
 impl Hashed {
     /// The content with both digests, which are computed here.
     pub fn of(content: Content, chunks: &Chunks) -> Hashed
+        requires { ContentLiesIn chunks.now content }
         ensures content { result.content ≡ content }
         ensures md5 { result.with_md5 ≡ true }
     {
@@ -135,13 +136,14 @@ impl Copied for Hashed {
 }
 
 // The digests of all bytes of a content, span by span.
-fn digests_of(content: &Content, _chunks: &Chunks) -> Digests
+fn digests_of(content: &Content, chunks: &Chunks) -> Digests
+    requires { ContentLiesIn chunks.now content.now }
     ensures { StandsAfter result (bytes_of content.now) }
 {
     let mut digests = Digests::new();
     let mut at = 0;
     while at < content.len() {
-        let part = content.slice_at(at);
+        let part = content.slice_at(chunks, at);
         digests.update(part);
         at += part.len() as u64;
     }

@@ -1,6 +1,6 @@
 //! Laws over every slot, history and command. Each is the contract of a function that does nothing.
 ghost use Rattle.gcs_meaning.specs.Apart.{BucketsStandApart};
-ghost use Rattle.gcs_meaning.specs.Laws.{AnswersFit, CoveredIsKept, FitIsKept, GenerationsRise, LockedIsKept, SmallIsKept, SoftIsKept};
+ghost use Rattle.gcs_meaning.specs.Laws.{AnswersFit, ContentsStay, CoveredIsKept, FitIsKept, GenerationsRise, LockedIsKept, SmallIsKept, SoftIsKept};
 
 /// The versions that are made under a bucket's name have greater and greater generations, also over its deletion and restore; and
 /// each version and each bucket that a step leaves was there before it, or has a greater generation than all that were made before.
@@ -57,4 +57,10 @@ pub fn law_answers()
 /// bucket, are those after its own entries alone. So a history of a shard is one history for each of its buckets.
 pub fn law_buckets()
     ensures { BucketsStandApart }
+{}
+
+/// Contents stay in their chunks: what a command answers and leaves lies in those in which the slot and the command lie. So does it
+/// on the slots of a shard, and so do the slots of a history whose commands lie in them.
+pub fn law_contents()
+    ensures { ContentsStay }
 {}

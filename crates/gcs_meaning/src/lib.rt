@@ -30,8 +30,8 @@ pub use copying::Copied;
 pub use desk::{Desk, Unheld};
 pub use hashed::Hashed;
 pub use laws::{
-    law_answers, law_buckets, law_covered, law_fit, law_generations, law_locked, law_small,
-    law_soft,
+    law_answers, law_buckets, law_contents, law_covered, law_fit, law_generations, law_locked,
+    law_small, law_soft,
 };
 pub use limits::{
     DEFAULT_CLASS, DEFAULT_CONTENT_TYPE, DEFAULT_SOFT_SECONDS, LARGEST_CUSTOM, LARGEST_OBJECT,

@@ -1,3 +1,4 @@
+pub mod Excerpt
 pub mod Form
 pub mod Outgoing
 pub mod Replies

@@ -2,6 +2,7 @@
 ghost use Rattle.std.specs.Prelude.{◌≡◌, ◌++◌, [], IfOk, OnOk, Some, codes, false, option_map, string_bytes};
 ghost use Rattle.serde_json.specs.View.{view};
 ghost use Rattle.serde_json.specs.Written.{compact_text, has_float};
+ghost use Rattle.gcs_chunks.specs.Content.{ChunksValue};
 ghost use Rattle.gcs_fields.specs.Select.{selected};
 ghost use Rattle.gcs_fields.specs.Views.{mask_of};
 ghost use Rattle.gcs_http_out.specs.Head.{IsStatus, head_text};
@@ -10,7 +11,7 @@ ghost use Rattle.gcs_render.specs.Lists.{buckets_data, list_data};
 ghost use Rattle.gcs_render.specs.Refusals.{error_data};
 ghost use Rattle.gcs_render.specs.Resources.{bucket_data, object_data};
 ghost use Rattle.gcs_reply.specs.Replies.{bucket_in, head_and_body, json_lines, line_text, lines_behind, masked, refusal_lines, resource_lines, standing, unmet_size, unmet_text};
-ghost use Rattle.gcs_reply.specs.Outgoing.{outgoing_bytes};
+ghost use Rattle.gcs_reply.specs.Outgoing.{outgoing_bytes, OutgoingLiesIn};
 
 use crate::form::Form;
 use crate::outgoing::Outgoing;
@@ -32,8 +33,9 @@ pub const TEXT_ROOM: usize = 1024;
 
 /// A refusal, with the size where a range can't be met. `Err`: no memory.
 pub fn refusal_reply(alloc: Global, form: Form, reason: &Reason) -> Result<Outgoing, AllocError>
-    ensures { IfOk result (λ outgoing. outgoing_bytes outgoing
+    ensures text { IfOk result (λ outgoing. outgoing_bytes outgoing
         ≡ head_and_body form (status_of reason.now) (standing (refusal_lines reason.now)) (compact_text (error_data reason.now))) }
+    ensures lies { IfOk result (λ outgoing. (chunks : ChunksValue) → OutgoingLiesIn chunks outgoing) }
 {
     let body = error_text(alloc, Vec::with_capacity(alloc, TEXT_ROOM)?, reason)?;
     json_reply(form, reason.status(), unmet_size_of(reason), body)
@@ -47,8 +49,9 @@ pub fn resource_reply(
     row: &Row,
     settings: &Settings,
 ) -> Result<Outgoing, AllocError>
-    ensures { IfOk result (λ outgoing. outgoing_bytes outgoing
+    ensures text { IfOk result (λ outgoing. outgoing_bytes outgoing
         ≡ head_and_body form 200 (standing resource_lines) (compact_text (masked request.now (object_data (bucket_in request.now) row.now settings.now)))) }
+    ensures lies { IfOk result (λ outgoing. (chunks : ChunksValue) → OutgoingLiesIn chunks outgoing) }
 {
     let body = resource_body(alloc, request, row, settings)?;
     json_reply(form, 200, None, body)
@@ -61,8 +64,9 @@ pub fn bucket_reply(
     request: &Request,
     row: &BucketRow,
 ) -> Result<Outgoing, AllocError>
-    ensures { IfOk result (λ outgoing. outgoing_bytes outgoing
+    ensures text { IfOk result (λ outgoing. outgoing_bytes outgoing
         ≡ head_and_body form 200 (standing resource_lines) (compact_text (masked request.now (bucket_data row.now)))) }
+    ensures lies { IfOk result (λ outgoing. (chunks : ChunksValue) → OutgoingLiesIn chunks outgoing) }
 {
     let body = bucket_body(alloc, request, row)?;
     json_reply(form, 200, None, body)
@@ -76,8 +80,9 @@ pub fn buckets_reply(
     rows: &List<BucketRow>,
     token: &Option<Text>,
 ) -> Result<Outgoing, AllocError>
-    ensures { IfOk result (λ outgoing. outgoing_bytes outgoing
+    ensures text { IfOk result (λ outgoing. outgoing_bytes outgoing
         ≡ head_and_body form 200 (standing resource_lines) (compact_text (masked request.now (buckets_data rows.now token.now)))) }
+    ensures lies { IfOk result (λ outgoing. (chunks : ChunksValue) → OutgoingLiesIn chunks outgoing) }
 {
     let body = buckets_body(alloc, request, rows, token)?;
     json_reply(form, 200, None, body)
@@ -90,8 +95,9 @@ pub fn page_reply(
     request: &Request,
     page: &Page,
 ) -> Result<Outgoing, AllocError>
-    ensures { IfOk result (λ outgoing. outgoing_bytes outgoing
+    ensures text { IfOk result (λ outgoing. outgoing_bytes outgoing
         ≡ head_and_body form 200 (standing resource_lines) (compact_text (masked request.now (list_data (bucket_in request.now) page.now)))) }
+    ensures lies { IfOk result (λ outgoing. (chunks : ChunksValue) → OutgoingLiesIn chunks outgoing) }
 {
     let body = page_body(alloc, request, page)?;
     json_reply(form, 200, None, body)
@@ -192,7 +198,8 @@ pub fn json_reply(
     body: Vec<u8>,
 ) -> Result<Outgoing, AllocError>
     requires { IsStatus status }
-    ensures { IfOk result (λ outgoing. outgoing_bytes outgoing ≡ head_and_body form status (standing (json_lines unmet)) body.items) }
+    ensures text { IfOk result (λ outgoing. outgoing_bytes outgoing ≡ head_and_body form status (standing (json_lines unmet)) body.items) }
+    ensures lies { IfOk result (λ outgoing. (chunks : ChunksValue) → OutgoingLiesIn chunks outgoing) }
 {
     let size = body.len();
     let mut text = body;

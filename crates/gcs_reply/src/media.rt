@@ -1,9 +1,11 @@
 //! Media replies: the bytes of a version, or a part of them, behind a head that tells what they are.
 ghost use Rattle.std.specs.Prelude.{◌≡◌, ◌≤◌, ◌++◌, ℕ, List, IfOk, OnOk, Some, codes, length, option_map, slice_range, string_bytes};
+ghost use Rattle.gcs_chunks.specs.Content.{ChunksValue};
 ghost use Rattle.gcs_http_out.specs.Head.{IsStatus, head_text};
 ghost use Rattle.gcs_meaning.specs.Content.{bytes_in};
+ghost use Rattle.gcs_meaning.specs.Contents.{RowLiesIn};
 ghost use Rattle.gcs_reply.specs.Replies.{content_lines, hash_text, head_and_body, line_text, lines_behind, media_lines, media_status, meta_lines, part_bytes, part_text, standing, version_lines};
-ghost use Rattle.gcs_reply.specs.Outgoing.{outgoing_bytes};
+ghost use Rattle.gcs_reply.specs.Outgoing.{outgoing_bytes, OutgoingLiesIn};
 
 use crate::excerpt::Excerpt;
 use crate::form::Form;
@@ -26,8 +28,9 @@ pub fn media_reply(
     row: &Row,
     part: Option<(u64, u64)>,
 ) -> Result<Outgoing, AllocError>
-    ensures { IfOk result (λ outgoing. outgoing_bytes outgoing
+    ensures text { IfOk result (λ outgoing. outgoing_bytes outgoing
         ≡ head_and_body form (media_status part) (standing (media_lines row.now part)) (part_bytes part (bytes_in row.now.hashed))) }
+    ensures lies { IfOk result (λ outgoing. (chunks : ChunksValue) → RowLiesIn chunks row.now → OutgoingLiesIn chunks outgoing) }
 {
     let content = row.hashed.content();
     let (from, to) = bounds_of(content.len(), part);

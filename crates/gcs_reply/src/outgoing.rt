@@ -1,6 +1,8 @@
 //! A text that is written.
 ghost use Rattle.std.specs.Prelude.{◌≡◌, ◌++◌, ◌-◌, length, min, take, drop};
-ghost use Rattle.gcs_reply.specs.Outgoing.{outgoing_bytes};
+ghost use Rattle.gcs_chunks.specs.Content.{ContentLiesIn};
+ghost use Rattle.gcs_reply.specs.Excerpt.{cut_bytes};
+ghost use Rattle.gcs_reply.specs.Outgoing.{outgoing_bytes, OutgoingLiesIn};
 
 use crate::copying::copy_from;
 use crate::excerpt::Excerpt;
@@ -33,6 +35,7 @@ impl Outgoing {
 
     /// Writes the bytes from `at` on, as many as fit and are there, and tells how many.
     pub fn read(&self, chunks: &Chunks, at: u64, into: &mut [u8]) -> usize
+        requires lies { OutgoingLiesIn chunks.now self.now }
         ensures count { result ≡ min (length into.old) (length (outgoing_bytes self.now) - at) }
         ensures bytes { into.new ≡ take result (drop at (outgoing_bytes self.now)) ++ drop result into.old }
     {
@@ -47,8 +50,9 @@ impl Outgoing {
 
 // Writes bytes of the head and then of the body, from `at` on, as many as fit and are there.
 fn read_both(head: &[u8], body: &Excerpt, chunks: &Chunks, at: u64, into: &mut [u8]) -> usize
-    ensures count { result ≡ min (length into.old) (length (head.now ++ body.now) - at) }
-    ensures bytes { into.new ≡ take result (drop at (head.now ++ body.now)) ++ drop result into.old }
+    requires { ContentLiesIn chunks.now body.now.content }
+    ensures count { result ≡ min (length into.old) (length (head.now ++ cut_bytes body.now) - at) }
+    ensures bytes { into.new ≡ take result (drop at (head.now ++ cut_bytes body.now)) ++ drop result into.old }
 {
     let count = copy_from(head, at, into);
     let past = at.saturating_sub(head.len() as u64);

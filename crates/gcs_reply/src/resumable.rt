@@ -1,7 +1,8 @@
 //! Replies of resumable uploads. They have no body.
 ghost use Rattle.std.specs.Prelude.{◌≡◌, [], IfOk, OnOk, string_bytes};
 ghost use Rattle.std.specs.Option.{option_copied};
-ghost use Rattle.gcs_reply.specs.Outgoing.{outgoing_bytes};
+ghost use Rattle.gcs_chunks.specs.Content.{ChunksValue};
+ghost use Rattle.gcs_reply.specs.Outgoing.{outgoing_bytes, OutgoingLiesIn};
 ghost use Rattle.gcs_reply.specs.Replies.{bucket_in, head_and_body, host_of, kept_lines, lines_behind, location_text, standing, started_lines, upload_path};
 
 use crate::form::Form;
@@ -24,7 +25,8 @@ pub fn started_reply(
     request: &Request,
     upload: u64,
 ) -> Result<Outgoing, AllocError>
-    ensures { IfOk result (λ outgoing. outgoing_bytes outgoing ≡ head_and_body form 200 (standing (started_lines request.now upload)) []) }
+    ensures text { IfOk result (λ outgoing. outgoing_bytes outgoing ≡ head_and_body form 200 (standing (started_lines request.now upload)) []) }
+    ensures lies { IfOk result (λ outgoing. (chunks : ChunksValue) → OutgoingLiesIn chunks outgoing) }
 {
     let mut head = Vec::with_capacity(alloc, HEAD_ROOM)?;
     push_status(&mut head, 200)?;
@@ -37,7 +39,8 @@ pub fn started_reply(
 ///
 /// Source: Cloud Storage, "Resumable uploads".
 pub fn kept_reply(alloc: Global, form: Form, count: u64) -> Result<Outgoing, AllocError>
-    ensures { IfOk result (λ outgoing. outgoing_bytes outgoing ≡ head_and_body form 308 (standing (kept_lines count)) []) }
+    ensures text { IfOk result (λ outgoing. outgoing_bytes outgoing ≡ head_and_body form 308 (standing (kept_lines count)) []) }
+    ensures lies { IfOk result (λ outgoing. (chunks : ChunksValue) → OutgoingLiesIn chunks outgoing) }
 {
     let mut head = Vec::with_capacity(alloc, HEAD_ROOM)?;
     push_status(&mut head, 308)?;
@@ -50,7 +53,8 @@ pub fn kept_reply(alloc: Global, form: Form, count: u64) -> Result<Outgoing, All
 ///
 /// Source: Cloud Storage, "Resumable uploads".
 pub fn cancelled_reply(alloc: Global, form: Form) -> Result<Outgoing, AllocError>
-    ensures { IfOk result (λ outgoing. outgoing_bytes outgoing ≡ head_and_body form 499 [] []) }
+    ensures text { IfOk result (λ outgoing. outgoing_bytes outgoing ≡ head_and_body form 499 [] []) }
+    ensures lies { IfOk result (λ outgoing. (chunks : ChunksValue) → OutgoingLiesIn chunks outgoing) }
 {
     let mut head = Vec::with_capacity(alloc, HEAD_ROOM)?;
     push_status(&mut head, 499)?;

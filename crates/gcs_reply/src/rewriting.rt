@@ -3,9 +3,10 @@ ghost use Rattle.std.specs.Prelude.{◌≡◌, IfOk, option_map, false};
 ghost use Rattle.std.specs.Option.{ForSome};
 ghost use Rattle.serde_json.specs.View.{view};
 ghost use Rattle.serde_json.specs.Written.{compact_text, has_float};
+ghost use Rattle.gcs_chunks.specs.Content.{ChunksValue};
 ghost use Rattle.gcs_render.specs.Lists.{rewrite_data, version_data};
 ghost use Rattle.gcs_reply.specs.Replies.{bucket_in, head_and_body, masked, resource_lines, standing};
-ghost use Rattle.gcs_reply.specs.Outgoing.{outgoing_bytes};
+ghost use Rattle.gcs_reply.specs.Outgoing.{outgoing_bytes, OutgoingLiesIn};
 
 use crate::form::Form;
 use crate::json::{TEXT_ROOM, bucket_named, json_reply, masked_text};
@@ -25,8 +26,9 @@ pub fn rewrite_reply(
     reply: &RewriteReply,
     object: &Option<(Row, Settings)>,
 ) -> Result<Outgoing, AllocError>
-    ensures { IfOk result (λ outgoing. outgoing_bytes outgoing
+    ensures text { IfOk result (λ outgoing. outgoing_bytes outgoing
         ≡ head_and_body form 200 (standing resource_lines) (compact_text (masked request.now (rewrite_data reply.now (version_data (bucket_in request.now) object.now))))) }
+    ensures lies { IfOk result (λ outgoing. (chunks : ChunksValue) → OutgoingLiesIn chunks outgoing) }
 {
     let body = rewrite_body(alloc, request, reply, object)?;
     json_reply(form, 200, None, body)

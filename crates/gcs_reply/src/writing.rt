@@ -1,7 +1,9 @@
 //! Replies as they are written.
 ghost use Rattle.std.specs.Prelude.{◌≡◌, IfOk};
+ghost use Rattle.gcs_chunks.specs.Content.{ChunksValue};
 ghost use Rattle.gcs_http_out.specs.Head.{IsStatus};
-ghost use Rattle.gcs_reply.specs.Outgoing.{outgoing_bytes};
+ghost use Rattle.gcs_rewrite.specs.Contents.{ReplyLiesIn};
+ghost use Rattle.gcs_reply.specs.Outgoing.{outgoing_bytes, OutgoingLiesIn};
 ghost use Rattle.gcs_reply.specs.Replies.{bare_text, fault_text, fixed_of, memory_text, refusal_text, reply_text};
 
 use crate::form::Form;
@@ -27,7 +29,8 @@ pub fn write_reply(
     request: &Request,
     reply: &Reply,
 ) -> Result<Outgoing, AllocError>
-    ensures { IfOk result (λ outgoing. outgoing_bytes outgoing ≡ reply_text form request.now reply.now) }
+    ensures text { IfOk result (λ outgoing. outgoing_bytes outgoing ≡ reply_text form request.now reply.now) }
+    ensures lies { IfOk result (λ outgoing. (chunks : ChunksValue) → ReplyLiesIn chunks reply.now → OutgoingLiesIn chunks outgoing) }
 {
     match reply {
         Reply::Refused(reason) => write_refusal(alloc, form, reason),
@@ -47,7 +50,8 @@ pub fn write_reply(
 
 /// The text of a refusal, with the size of a content in which a range can't be met. `Err`: no memory.
 pub fn write_refusal(alloc: Global, form: Form, reason: &Reason) -> Result<Outgoing, AllocError>
-    ensures { IfOk result (λ outgoing. outgoing_bytes outgoing ≡ refusal_text form reason.now) }
+    ensures text { IfOk result (λ outgoing. outgoing_bytes outgoing ≡ refusal_text form reason.now) }
+    ensures lies { IfOk result (λ outgoing. (chunks : ChunksValue) → OutgoingLiesIn chunks outgoing) }
 {
     refusal_reply(alloc, form, reason)
 }
@@ -55,7 +59,8 @@ pub fn write_refusal(alloc: Global, form: Form, reason: &Reason) -> Result<Outgo
 // A head alone, without a length. `Err`: no memory.
 fn bare_reply(alloc: Global, form: Form, status: u16) -> Result<Outgoing, AllocError>
     requires { IsStatus status }
-    ensures { IfOk result (λ outgoing. outgoing_bytes outgoing ≡ bare_text form status) }
+    ensures text { IfOk result (λ outgoing. outgoing_bytes outgoing ≡ bare_text form status) }
+    ensures lies { IfOk result (λ outgoing. (chunks : ChunksValue) → OutgoingLiesIn chunks outgoing) }
 {
     let mut head = Vec::with_capacity(alloc, BARE_ROOM)?;
     push_status(&mut head, status)?;
@@ -65,7 +70,8 @@ fn bare_reply(alloc: Global, form: Form, status: u16) -> Result<Outgoing, AllocE
 
 /// The constant reply of want of memory, before any step of a request or after one.
 pub fn memory_reply(form: Form, stepped: bool) -> Outgoing
-    ensures { outgoing_bytes result ≡ memory_text form stepped }
+    ensures text { outgoing_bytes result ≡ memory_text form stepped }
+    ensures lies { (chunks : ChunksValue) → OutgoingLiesIn chunks result }
 {
     let what = if stepped {
         FixedText::WantOfMemoryDone
@@ -81,7 +87,8 @@ pub fn memory_reply(form: Form, stepped: bool) -> Outgoing
 
 /// The constant reply of a fault. It closes the connection.
 pub fn fault_reply(fault: FrameFault) -> Outgoing
-    ensures { outgoing_bytes result ≡ fault_text fault }
+    ensures text { outgoing_bytes result ≡ fault_text fault }
+    ensures lies { (chunks : ChunksValue) → OutgoingLiesIn chunks result }
 {
     Outgoing::Fixed(fixed(Fixed {
         what: fixed_of(fault),

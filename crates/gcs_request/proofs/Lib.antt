@@ -1,4 +1,5 @@
 pub mod Fitting
+pub mod GivenLies
 pub mod Marks
 pub mod Texts
 pub mod RangeTexts

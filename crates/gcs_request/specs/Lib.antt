@@ -10,3 +10,4 @@ pub mod Begins
 pub mod Heading
 pub mod Bodies
 pub mod Requests
+pub mod Contents

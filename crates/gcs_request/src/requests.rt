@@ -1,15 +1,17 @@
 //! What a message asks for, once its body has come.
 ghost use Rattle.std.specs.Prelude.{◌≡◌, ℕ, List, IfOk, IfErr};
-ghost use Rattle.gcs_chunks.specs.Content.{bytes_of};
+ghost use Rattle.gcs_chunks.specs.Content.{bytes_of, ChunksValue, ContentLiesIn};
 ghost use Rattle.gcs_http_in.specs.declared.limits.Limits.{Limits};
 ghost use Rattle.gcs_http_in.specs.Head.{Head};
 ghost use Rattle.gcs_request.specs.Bodies.{IsCome, IsTextCome};
+ghost use Rattle.gcs_request.specs.Contents.{AskedLiesIn, ComeLiesIn};
 ghost use Rattle.gcs_request.specs.Heading.{part_with, IsHeading};
 ghost use Rattle.gcs_request.specs.Begins.{IsBeginFault, IsBegun};
 ghost use Rattle.gcs_request.specs.Parts.{IsPartsFault};
 ghost use Rattle.gcs_request.specs.UploadJson.{IsNamed};
 ghost use Rattle.gcs_request.specs.Requests.{IsAsked, IsAskedFit, IsBodyFault, IsGiven};
 ghost use Rattle.gcs_route.specs.declared.kind.RequestKind.TheVariants.{UploadPiece};
+ghost use Rattle.gcs_rewrite.specs.Contents.{GivenLiesIn};
 ghost use Rattle.gcs_rewrite.specs.Fits.{Fits, IsGivenInLimits, IsGivenOn};
 
 use crate::bodies::Come;
@@ -37,6 +39,7 @@ pub fn request_of(alloc: Global, heading: Heading, body: Come) -> Result<Asked, 
     ensures asked { IfOk result (λ asked. (limits : Limits) (head : Head) (bytes : List ℕ) → IsHeading head heading
         → IsCome limits.json (part_with heading) bytes body → IsAsked limits head bytes asked) }
     ensures fits { IfOk result (λ asked. (head : Head) → IsHeading head heading → IsAskedFit asked) }
+    ensures lies { IfOk result (λ asked. (chunks : ChunksValue) → ComeLiesIn chunks body → AskedLiesIn chunks asked) }
 {
     match heading {
         Heading::Refused(reason) => {
@@ -70,6 +73,7 @@ fn given_of(alloc: Global, call: &Call, part: HeadPart, body: Come) -> Result<Gi
     ensures refused { IfErr result (λ fault. (reason : Reason) → fault ≡ GivenFault.Refused reason
         → (most : ℕ) (bytes : List ℕ) → IsCome most part bytes body → IsBodyFault most call.now part bytes reason) }
     ensures fits { IfOk result (λ given. (head : Head) → IsHeading head (Heading.Asks call.now part) → Fits (record { call = call.now; given = given })) }
+    ensures lies { IfOk result (λ given. (chunks : ChunksValue) → ComeLiesIn chunks body → GivenLiesIn chunks given) }
 {
     match part {
         HeadPart::Nothing => {
@@ -126,6 +130,7 @@ fn given_of_parts(
         → IsPartsFault most call.now boundary encoded bytes reason) }
     ensures fits { IfOk result (λ given. (head : Head) (boundary : List ℕ) → IsHeading head (Heading.Asks call.now (HeadPart.Parts boundary encoded))
         → Fits (record { call = call.now; given = given })) }
+    ensures lies { IfOk result (λ given. (chunks : ChunksValue) → ComeLiesIn chunks body → GivenLiesIn chunks given) }
 {
     match body {
         Come::TooLong => Err(GivenFault::Refused(Reason::TooLong)),
@@ -163,6 +168,7 @@ fn given_of_begin(
         → (most : ℕ) (bytes : List ℕ) → IsTextCome most bytes body → IsBeginFault most call.now encoded bytes reason) }
     ensures fits { IfOk result (λ given. (head : Head) → IsHeading head (Heading.Asks call.now (HeadPart.Begin kind total host encoded))
         → Fits (record { call = call.now; given = given })) }
+    ensures lies { IfOk result (λ given. (chunks : ChunksValue) → GivenLiesIn chunks given) }
 {
     match read_begin(alloc, call, encoded, body) {
         Ok(body) => Ok(Given::Begin {
@@ -211,6 +217,7 @@ fn given_of_piece(range: PieceRange, content: Content) -> Result<Given, GivenFau
         → (most : ℕ) (call : Call) (bytes : List ℕ) → bytes_of content ≡ bytes → IsBodyFault most call (HeadPart.Piece range) bytes reason) }
     ensures fits { IfOk result (λ given. (call : Call) → IsGivenOn UploadPiece call given) }
     ensures limits { IfOk result (λ given. IsGivenInLimits given) }
+    ensures lies { IfOk result (λ given. (chunks : ChunksValue) → ContentLiesIn chunks content → GivenLiesIn chunks given) }
 {
     match piece_of(range, content.len()) {
         Some((offset, total)) => Ok(Given::Piece {

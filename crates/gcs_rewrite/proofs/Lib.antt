@@ -3,3 +3,4 @@ pub mod Allowed
 pub mod Lines
 pub mod Listed
 pub mod RewriteTokens
+pub mod ScriptLies

@@ -10,3 +10,4 @@ pub mod Answered
 pub mod Copies
 pub mod Resumable
 pub mod Scripts
+pub mod Contents

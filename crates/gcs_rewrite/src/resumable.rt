@@ -1,5 +1,6 @@
 //! What a resumable upload asks the store: its begin, its pieces, its end, and that it is cancelled.
 ghost use Rattle.std.specs.Prelude.{◌≡◌, IfOk, IsSome};
+ghost use Rattle.gcs_chunks.specs.Content.{ContentLiesIn};
 ghost use Rattle.gcs_route.specs.OfCall.{NamesBucket};
 ghost use Rattle.gcs_rewrite.specs.Commands.{append_move, cancel_move, finish_move, start_move, upload_name, upload_named};
 
@@ -74,6 +75,7 @@ pub fn ask_append(
 pub fn ask_finish(call: &Call, content: &Content, chunks: &Chunks) -> Result<Move, AllocError>
     requires bucket { NamesBucket call.now }
     requires upload { IsSome call.now.upload_id }
+    requires lies { ContentLiesIn chunks.now content.now }
     ensures { IfOk result (λ next. next ≡ finish_move call.now content.now) }
 {
     let place = call.bucket();

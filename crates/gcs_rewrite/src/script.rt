@@ -1,6 +1,7 @@
 //! The script of a request: its moves, one after the other.
 ghost use Rattle.std.specs.Prelude.{◌≡◌, IfOk, IsSome, length};
 ghost use Rattle.gcs_route.specs.OfCall.{NamesBucket};
+ghost use Rattle.gcs_rewrite.specs.Contents.{AnswersLieIn, MoveLiesIn, RequestLiesIn};
 ghost use Rattle.gcs_rewrite.specs.Fits.{Fits, HasFirstStep};
 ghost use Rattle.gcs_rewrite.specs.Resumable.{resume_script};
 ghost use Rattle.gcs_rewrite.specs.Scripts.{script, single_script, MayFollow};
@@ -18,16 +19,20 @@ use gcs_route::{Call, RequestKind};
 use std::alloc::{AllocError, Global};
 
 /// The next move of a request after these answers. A shard that is asked may be asked for its command, and a request
-/// asks sixteen times at most. The contents of the answers stand in the chunks. `Err`: no memory.
+/// asks sixteen times at most. What it asks and says lies in the chunks in which the request and the answers lie.
+/// `Err`: no memory.
 pub fn next(
     alloc: Global,
     request: &Request,
     answers: &[Answer],
     chunks: &Chunks,
 ) -> Result<Move, AllocError>
-    requires { Fits request.now }
+    requires fits { Fits request.now }
+    requires contents { RequestLiesIn chunks.now request.now }
+    requires answers { AnswersLieIn chunks.now answers.now }
     ensures next { IfOk result (λ next. next ≡ script request.now answers.now) }
     ensures allowed { IfOk result (λ next. MayFollow (length answers.now) next) }
+    ensures lies { IfOk result (λ next. MoveLiesIn chunks.now next) }
 {
     let Request { call, given } = request;
     match call.kind() {
@@ -70,6 +75,7 @@ fn next_piece(
     requires first { HasFirstStep call.now given.now }
     requires bucket { NamesBucket call.now }
     requires upload { IsSome call.now.upload_id }
+    requires answers { AnswersLieIn chunks.now answers.now }
     ensures { IfOk result (λ next. next ≡ resume_script call.now given.now answers.now) }
 {
     match answers {

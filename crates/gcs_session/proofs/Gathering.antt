@@ -1,8 +1,9 @@
 -- What the events of framing make of a session.
 use Rattle.std.proofs.Common.{◌≡◌, ℕ, ◌+◌, ◌≤◌, Bool, not, List, [], ◌∷◌, ◌++◌, length, take, drop, Option, Some, None, refl, ap, sym, subst, ◌∙◌, arith, append_assoc}
-use Rattle.std.specs.Prelude.{◌==◌, ◌&&◌, slice_range}
+use Rattle.std.specs.Prelude.{◌==◌, ◌&&◌, slice_range, IfSome}
 use Rattle.std.proofs.lemmas.List.{take-append-drop, length-take}
 use Rattle.std.proofs.Math.Seq.{take-append-add}
+use Rattle.gcs_chunks.specs.Content.{ChunksValue}
 use Rattle.gcs_http_in.specs.declared.limits.Limits.{Limits}
 use Rattle.gcs_http_in.specs.declared.fault.FrameFault.{FrameFault}
 use Rattle.gcs_http_in.specs.declared.framer.Framer.{Framer}
@@ -14,7 +15,9 @@ use Rattle.gcs_http_in.specs.Stands.{Stands, Told, IsWaiting, limits_of}
 use Rattle.gcs_http_in.proofs.StandsReads.{reads_due}
 use Rattle.gcs_session.specs.declared.coming.Coming.{Coming}
 use Rattle.gcs_session.specs.declared.session.Session.{Session}
+use Rattle.gcs_session.specs.declared.unsent.Unsent.{Unsent}
 use Rattle.gcs_session.specs.Coming.{IsComing}
+use Rattle.gcs_session.specs.Contents.{ComingLiesIn, SessionLiesIn, UnsentLiesIn}
 use Rattle.gcs_session.specs.Session.{IsClosedBy, IsEndedBy, IsReading, IsSession, IsUnderWay, IsWholeIn}
 use Rattle.gcs_session.specs.Unsent.{unsent_bytes}
 
@@ -119,3 +122,7 @@ pub none-waiting : (f : Framer) (bytes : List ℕ) (messages : List Message) →
 none-waiting f bytes messages stands waiting =
     let due = reads_due f bytes messages None stands waiting in
     let e : None ≡ Some due.0 = due.1 in cc
+
+-- what has come of the message under way lies where it lay, and so does what waits
+pub gathered-lies : (chunks : ChunksValue) (s t : Session) → t.unsent ≡ s.unsent → (IfSome s.coming (ComingLiesIn chunks) → IfSome t.coming (ComingLiesIn chunks)) → SessionLiesIn chunks s → SessionLiesIn chunks t
+gathered-lies chunks s t same stays lies = record { coming = stays lies.coming; unsent = subst (λ (u : Unsent). UnsentLiesIn chunks u) (sym same) lies.unsent }

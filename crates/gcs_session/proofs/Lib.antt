@@ -1,4 +1,5 @@
 pub mod Tellings
+pub mod Standings
 pub mod Steps
 pub mod Answered
 pub mod Drops

@@ -10,3 +10,4 @@ pub mod Session
 pub mod Connection
 pub mod Writing
 pub mod Along
+pub mod Contents

@@ -1,12 +1,15 @@
 //! The reply to a request: its script against the desk, and the text of what it says.
 ghost use Rattle.std.specs.Prelude.{◌≡◌, ◌⊎◌, ℕ, Bool, List, ◌∷◌, [], false};
+ghost use Rattle.gcs_chunks.specs.Content.{ChunksValue};
 ghost use Rattle.gcs_io.specs.Told.{Gains};
 ghost use Rattle.gcs_http_in.specs.declared.limits.Limits.{Limits};
 ghost use Rattle.gcs_http_in.specs.Head.{Head};
+ghost use Rattle.gcs_rewrite.specs.Contents.{RequestLiesIn};
 ghost use Rattle.gcs_rewrite.specs.Fits.{Fits};
-ghost use Rattle.gcs_reply.specs.Outgoing.{outgoing_bytes};
+ghost use Rattle.gcs_reply.specs.Outgoing.{outgoing_bytes, OutgoingLiesIn};
 ghost use Rattle.gcs_reply.specs.Replies.{memory_text, refusal_text};
 ghost use Rattle.gcs_session.specs.Coming.{IsComing};
+ghost use Rattle.gcs_session.specs.Contents.{ComingLiesIn, RanLiesIn};
 ghost use Rattle.gcs_session.specs.Running.{lengths, GoesOn, RanTo};
 ghost use Rattle.gcs_session.specs.Served.{IsAnswered, Replies};
 
@@ -37,10 +40,13 @@ pub fn run_script<D: Desk>(
     request: &Request,
     moment: u64,
 ) -> Ran
-    requires { Fits request.now }
-    ensures caller { D.caller desk.new ≡ D.caller desk.old }
-    ensures goes_on { GoesOn (D.caller desk.old) (D.seen desk.old) (D.mine desk.old) (D.seen desk.new) (D.mine desk.new) }
-    ensures ran { RanTo request.now moment (D.seen desk.new) (D.caller desk.old) (lengths (D.mine desk.old)) result (lengths (D.mine desk.new)) }
+    requires chunks { (D.stands desk.old).chunks ≡ chunks.now }
+    requires fits { Fits request.now }
+    requires contents { RequestLiesIn chunks.now request.now }
+    ensures stands { D.stands desk.new ≡ D.stands desk.old }
+    ensures goes_on { GoesOn (D.stands desk.old).caller (D.seen desk.old) (D.mine desk.old) (D.seen desk.new) (D.mine desk.new) }
+    ensures ran { RanTo request.now moment (D.seen desk.new) (D.stands desk.old).caller (lengths (D.mine desk.old)) result (lengths (D.mine desk.new)) }
+    ensures lies { RanLiesIn chunks.now result }
 {
     let mut answers = Vec::new(alloc);
     for _ in 0..MOVES {
@@ -74,12 +80,15 @@ pub fn respond<C: Clock, D: Desk>(
     clock: &mut C,
     coming: Coming,
 ) -> Outgoing
-    requires { (limits : Limits) × (head : Head) × (body : List ℕ) × (keeps : Bool) × IsComing limits head body keeps coming }
-    ensures caller { D.caller desk.new ≡ D.caller desk.old }
-    ensures goes_on { GoesOn (D.caller desk.old) (D.seen desk.old) (D.mine desk.old) (D.seen desk.new) (D.mine desk.new) }
+    requires chunks { (D.stands desk.old).chunks ≡ chunks.now }
+    requires coming { (limits : Limits) × (head : Head) × (body : List ℕ) × (keeps : Bool) × IsComing limits head body keeps coming }
+    requires lies { ComingLiesIn chunks.now coming }
+    ensures stands { D.stands desk.new ≡ D.stands desk.old }
+    ensures goes_on { GoesOn (D.stands desk.old).caller (D.seen desk.old) (D.mine desk.old) (D.seen desk.new) (D.mine desk.new) }
     ensures reply { (moment : ℕ) × Gains (C.given clock.old) (C.given clock.new) (moment ∷ [])
         × ((limits : Limits) (head : Head) (body : List ℕ) (keeps : Bool) → IsComing limits head body keeps coming
-        → Replies limits head body keeps moment (D.seen desk.new) (D.caller desk.old) (lengths (D.mine desk.old)) (outgoing_bytes result) (lengths (D.mine desk.new))) }
+        → Replies limits head body keeps moment (D.seen desk.new) (D.stands desk.old).caller (lengths (D.mine desk.old)) (outgoing_bytes result) (lengths (D.mine desk.new))) }
+    ensures lies { OutgoingLiesIn chunks.now result }
 {
     let moment = clock.now();
     let Coming {
@@ -108,7 +117,8 @@ pub fn respond<C: Clock, D: Desk>(
 
 // The text of a refusal before any step.
 fn refuse(alloc: Global, form: Form, reason: &Reason) -> Outgoing
-    ensures { (outgoing_bytes result ≡ refusal_text form reason.now) ⊎ (outgoing_bytes result ≡ memory_text form false) }
+    ensures text { (outgoing_bytes result ≡ refusal_text form reason.now) ⊎ (outgoing_bytes result ≡ memory_text form false) }
+    ensures lies { (chunks : ChunksValue) → OutgoingLiesIn chunks result }
 {
     match write_refusal(alloc, form, reason) {
         Ok(outgoing) => outgoing,
@@ -125,10 +135,13 @@ fn answer<D: Desk>(
     moment: u64,
     form: Form,
 ) -> Outgoing
-    requires { Fits request.now }
-    ensures caller { D.caller desk.new ≡ D.caller desk.old }
-    ensures goes_on { GoesOn (D.caller desk.old) (D.seen desk.old) (D.mine desk.old) (D.seen desk.new) (D.mine desk.new) }
-    ensures said { IsAnswered form request.now moment (D.seen desk.new) (D.caller desk.old) (lengths (D.mine desk.old)) (outgoing_bytes result) (lengths (D.mine desk.new)) }
+    requires chunks { (D.stands desk.old).chunks ≡ chunks.now }
+    requires fits { Fits request.now }
+    requires contents { RequestLiesIn chunks.now request.now }
+    ensures stands { D.stands desk.new ≡ D.stands desk.old }
+    ensures goes_on { GoesOn (D.stands desk.old).caller (D.seen desk.old) (D.mine desk.old) (D.seen desk.new) (D.mine desk.new) }
+    ensures said { IsAnswered form request.now moment (D.seen desk.new) (D.stands desk.old).caller (lengths (D.mine desk.old)) (outgoing_bytes result) (lengths (D.mine desk.new)) }
+    ensures lies { OutgoingLiesIn chunks.now result }
 {
     match run_script(alloc, desk, chunks, request, moment) {
         Ran::Wanting { stepped } => memory_reply(form, stepped),

@@ -1,9 +1,11 @@
 //! A message whose head has come.
 ghost use Rattle.std.specs.Prelude.{◌≡◌, []};
+ghost use Rattle.gcs_chunks.specs.Content.{ChunksValue};
 ghost use Rattle.gcs_http_in.specs.declared.limits.Limits.{Limits};
 ghost use Rattle.gcs_http_in.specs.Head.{Head};
 ghost use Rattle.gcs_request.specs.Heads.{IsReadOf};
 ghost use Rattle.gcs_session.specs.Coming.{IsComing};
+ghost use Rattle.gcs_session.specs.Contents.{ComingLiesIn};
 
 use crate::body::Body;
 use gcs_reply::Form;
@@ -21,13 +23,21 @@ pub struct Coming {
 
 impl Coming {
     /// A message with this head, whose body comes. The connection stays after it or is closed, as `keeps` says; `minor`
-    /// is the version's second number, and `most` is how many bytes JSON may have.
-    pub fn new(alloc: Global, fields: &HeadFields<'_>, minor: u8, keeps: bool, most: u64) -> Coming
-        ensures { (limits : Limits) (head : Head) → limits.json ≡ most → IsReadOf head fields.now → head.minor ≡ minor
+    /// is the version's second number, `most` is how many bytes JSON may have, and `expected` how many bytes are to come.
+    pub fn new(
+        alloc: Global,
+        fields: &HeadFields<'_>,
+        minor: u8,
+        keeps: bool,
+        most: u64,
+        expected: u64,
+    ) -> Coming
+        ensures coming { (limits : Limits) (head : Head) → limits.json ≡ most → IsReadOf head fields.now → head.minor ≡ minor
             → IsComing limits head [] keeps result }
+        ensures lies { (chunks : ChunksValue) → ComingLiesIn chunks result }
     {
         let heading = read_head(alloc, fields).ok();
-        let body = Body::new(alloc, &heading, most);
+        let body = Body::new(alloc, &heading, most, expected);
         Coming {
             heading,
             body,

@@ -1,10 +1,12 @@
 //! A connection, from its first byte to its end.
 ghost use Rattle.std.specs.Prelude.{◌≡◌, ◌⊎◌, ◌≤◌, ◌<◌, ◌+◌, ℕ, List, [], length, false, true, IfOk, Option, Some, None};
+ghost use Rattle.gcs_chunks.specs.Content.{ChunksValue};
 ghost use Rattle.gcs_io.specs.Causes.{Rose};
 ghost use Rattle.gcs_http_in.specs.declared.limits.Limits.{Limits};
 ghost use Rattle.gcs_http_in.specs.Usual.{IsAllowed};
 ghost use Rattle.gcs_session.specs.Along.{AlongTo, IsAlong};
 ghost use Rattle.gcs_session.specs.Connection.{IsServed, Outside};
+ghost use Rattle.gcs_session.specs.Contents.{SessionLiesIn};
 ghost use Rattle.gcs_session.specs.Session.{limits_in, IsSession};
 
 use crate::ends::SessionEnd;
@@ -38,14 +40,15 @@ pub fn serve_connection<S: Source, K: Sink, C: Clock, D: Desk>(
     clock: &mut C,
     limits: &Limits,
 ) -> SessionEnd
-    requires { IsAllowed limits.now }
+    requires allowed { IsAllowed limits.now }
+    requires chunks { (D.stands desk.old).chunks ≡ chunks.now }
 
     // The headline.
-    ensures served { IsServed limits.now (D.caller desk.old)
+    ensures served { IsServed limits.now (D.stands desk.old).caller
         (record { left = S.rest source.old; taken = S.taken source.old; written = K.written sink.old; given = C.given clock.old; saw = D.seen desk.old; own = D.mine desk.old })
         (record { left = S.rest source.new; taken = S.taken source.new; written = K.written sink.new; given = C.given clock.new; saw = D.seen desk.new; own = D.mine desk.new })
         (S.ended source.new) result }
-    ensures caller { D.caller desk.new ≡ D.caller desk.old }
+    ensures stands { D.stands desk.new ≡ D.stands desk.old }
 
     // Want of memory is answered before anything is done.
     ensures memory { result ≡ SessionEnd.NoMemory → (desk.new ≡ desk.old) × (source.new ≡ source.old) × (sink.new ≡ sink.old) × (clock.new ≡ clock.old) }
@@ -94,6 +97,7 @@ fn open(alloc: Global, limits: &Limits) -> Result<Wire, AllocError>
     ensures closed { IfOk result (λ wire. wire.session.closed ≡ false) }
     ensures reads { IfOk result (λ wire. length wire.reads.items ≡ 65536) }
     ensures writes { IfOk result (λ wire. length wire.writes.items ≡ 65536) }
+    ensures lies { IfOk result (λ wire. (chunks : ChunksValue) → SessionLiesIn chunks wire.session) }
 {
     Ok(Wire {
         session: Session::new(alloc, limits)?,
@@ -126,18 +130,21 @@ fn serve_piece<K: Sink, C: Clock, D: Desk>(
     piece: &[u8],
 ) -> Option<SessionEnd>
     requires block { 0 < length block.old }
-    requires along { (limits : Limits) × (a : Outside) × (left : Option (List ℕ)) × (taken : Option (List ℕ)) × IsAlong limits (D.caller desk.old) a
+    requires chunks { (D.stands desk.old).chunks ≡ chunks.now }
+    requires lies { SessionLiesIn chunks.now session.old }
+    requires along { (limits : Limits) × (a : Outside) × (left : Option (List ℕ)) × (taken : Option (List ℕ)) × IsAlong limits (D.stands desk.old).caller a
         (record { left = left; taken = taken; written = K.written sink.old; given = C.given clock.old; saw = D.seen desk.old; own = D.mine desk.old })
         session.old piece.now }
-    ensures caller { D.caller desk.new ≡ D.caller desk.old }
-    ensures along { (limits : Limits) (a : Outside) (left taken : Option (List ℕ)) → (x : IsAlong limits (D.caller desk.old) a
+    ensures stands { D.stands desk.new ≡ D.stands desk.old }
+    ensures along { (limits : Limits) (a : Outside) (left taken : Option (List ℕ)) → (x : IsAlong limits (D.stands desk.old).caller a
         (record { left = left; taken = taken; written = K.written sink.old; given = C.given clock.old; saw = D.seen desk.old; own = D.mine desk.old })
         session.old piece.now)
-        → AlongTo result (length x.fed + length piece.now) limits (D.caller desk.old) a
+        → AlongTo result (length x.fed + length piece.now) limits (D.stands desk.old).caller a
         (record { left = left; taken = taken; written = K.written sink.new; given = C.given clock.new; saw = D.seen desk.new; own = D.mine desk.new })
         session.new }
     ensures fault { result ≡ Some SessionEnd.WriteFault → Rose (K.faults sink.old) (K.faults sink.new) }
     ensures faults { K.faults sink.old ≤ K.faults sink.new }
+    ensures lies { SessionLiesIn chunks.now session.new }
 {
     let mut rest = piece;
     // Each turn but the last answers a message, and a connection has fewer.

@@ -12,16 +12,21 @@ pub const PIECE: usize = 1_048_576;
 pub struct Filling {
     alloc: Global,
     bytes: Vec<u8>,
+    /// How many bytes are still expected: memory for a piece of them is taken at once. Where nobody told, it is 0 up to the
+    /// end of the first piece, and then a piece.
+    expected: u64,
     ghost open: { vec_len bytes < 1048576 },
 }
 
 impl Filling {
-    pub fn new(alloc: Global) -> Filling
+    /// No bytes, of so many that are expected. Where more come, or fewer, it is as good.
+    pub fn new(alloc: Global, expected: u64) -> Filling
         ensures { result.bytes.items ≡ [] }
     {
         Filling {
             alloc,
             bytes: Vec::new(alloc),
+            expected,
         }
     }
 
@@ -40,10 +45,17 @@ impl Filling {
             (λ piece. (piece.items ≡ self.old.bytes.items ++ part.now) × (length piece.items ≡ 1048576) × (self.new.bytes.items ≡ []))) }
     {
         let mut bytes = self.take();
+        if bytes.is_empty() {
+            bytes.reserve_exact(self.expected.min(PIECE as u64) as usize)?;
+        }
+        self.expected = self.expected.saturating_sub(part.len() as u64);
         bytes.extend_from_slice(part)?;
         if bytes.len() < PIECE {
             self.bytes = bytes;
             return Ok(None);
+        }
+        if self.expected == 0 {
+            self.expected = PIECE as u64;
         }
         Ok(Some(bytes))
     }

@@ -1,6 +1,7 @@
 //! A connection as a machine: bytes in, any cutting, and the bytes of replies out.
-ghost use Rattle.std.specs.Prelude.{◌≡◌, ◌≢◌, ◌≤◌, ◌<◌, ◌++◌, ℕ, Bool, List, [], IfOk, length, min, take, drop, true, false, Option, None, Some};
+ghost use Rattle.std.specs.Prelude.{◌≡◌, ◌≢◌, ◌≤◌, ◌<◌, ◌++◌, ℕ, Bool, List, [], IfOk, IfSome, length, min, take, drop, true, false, Option, None, Some};
 ghost use Rattle.std.specs.List.{list_all};
+ghost use Rattle.gcs_chunks.specs.Content.{ChunksValue};
 ghost use Rattle.gcs_http_in.specs.declared.limits.Limits.{Limits};
 ghost use Rattle.gcs_http_in.specs.Head.{Head};
 ghost use Rattle.gcs_http_in.specs.Lines.{is_end_byte};
@@ -10,6 +11,7 @@ ghost use Rattle.gcs_http_in.specs.Stands.{IsInMessage, Stands, limits_of};
 ghost use Rattle.gcs_http_in.specs.Usual.{IsAllowed};
 ghost use Rattle.gcs_meaning.specs.Desk.{AreUnmoved};
 ghost use Rattle.gcs_reply.specs.Replies.{fault_text};
+ghost use Rattle.gcs_session.specs.Contents.{ComingLiesIn, SessionLiesIn};
 ghost use Rattle.gcs_session.specs.Session.{IsFed, IsGatheredTo, IsReplied, IsRunning, IsSession, IsUnderWay, IsWanted, IsWholeIn, limits_in, waiting_in};
 
 use crate::answering::respond;
@@ -90,6 +92,7 @@ impl Session {
         ensures limits { IfOk result (λ s. limits_in s ≡ limits.now) }
         ensures session { IfOk result (λ s. IsSession s [] [] [] []) }
         ensures open { IfOk result (λ s. s.closed ≡ false) }
+        ensures lies { IfOk result (λ s. (chunks : ChunksValue) → SessionLiesIn chunks s) }
     {
         Ok(Session {
             alloc,
@@ -109,15 +112,18 @@ impl Session {
         clock: &mut C,
         piece: &[u8],
     ) -> Fed
-        requires { IsRunning self.old }
+        requires chunks { (D.stands desk.old).chunks ≡ chunks.now }
+        requires running { IsRunning self.old }
+        requires lies { SessionLiesIn chunks.now self.old }
         ensures limits { limits_in self.new ≡ limits_in self.old }
-        ensures caller { D.caller desk.new ≡ D.caller desk.old }
+        ensures stands { D.stands desk.new ≡ D.stands desk.old }
         ensures want { IsWanted self.old self.new piece.now result }
         ensures fed { (bytes : List ℕ) (messages : List Message) (text drained : List ℕ) → IsSession self.old bytes messages text drained
-            → IsFed (D.caller desk.old)
+            → IsFed (D.stands desk.old).caller
             (record { given = C.given clock.old; saw = D.seen desk.old; own = D.mine desk.old })
             (record { given = C.given clock.new; saw = D.seen desk.new; own = D.mine desk.new })
             self.new piece.now result bytes messages text drained }
+        ensures lies { SessionLiesIn chunks.now self.new }
     {
         if self.waits() {
             return Fed::nothing(Want::Drain);
@@ -150,6 +156,7 @@ impl Session {
 
     /// Gives out the bytes that wait, from the first on, as many as fit.
     pub fn drain(&mut self, chunks: &Chunks, into: &mut [u8]) -> usize
+        requires lies { SessionLiesIn chunks.now self.old }
         ensures limits { limits_in self.new ≡ limits_in self.old }
         ensures closed { self.new.closed ≡ self.old.closed }
         ensures count { result ≡ min (length into.old) (length (waiting_in self.old)) }
@@ -157,6 +164,7 @@ impl Session {
         ensures rest { waiting_in self.new ≡ drop result (waiting_in self.old) }
         ensures session { (bytes : List ℕ) (messages : List Message) (text drained : List ℕ) → IsSession self.old bytes messages text drained
             → IsSession self.new bytes messages text (drained ++ take result (waiting_in self.old)) }
+        ensures lies { SessionLiesIn chunks.now self.new }
     {
         self.unsent.give(chunks, into)
     }
@@ -184,11 +192,12 @@ impl Session {
         ensures limits { limits_in self.new ≡ limits_in self.old }
         ensures unsent { self.new.unsent ≡ self.old.unsent }
         ensures closed { self.new.closed ≡ self.old.closed }
-        ensures caller { D.caller desk.new ≡ D.caller desk.old }
+        ensures stands { D.stands desk.new ≡ D.stands desk.old }
         ensures lists { AreUnmoved (D.seen desk.old) (D.mine desk.old) (D.seen desk.new) (D.mine desk.new) }
         ensures whole { result.1 ≡ Event.More → result.0 ≡ length piece.now }
         ensures gathered { (bytes : List ℕ) (messages : List Message) (text drained : List ℕ) → IsSession self.old bytes messages text drained
             → IsGatheredTo result.1 self.new (bytes ++ take result.0 piece.now) messages text drained }
+        ensures lies { IfSome self.old.coming (ComingLiesIn (D.stands desk.old).chunks) → IfSome self.new.coming (ComingLiesIn (D.stands desk.old).chunks) }
     {
         let mut at = 0;
         'events: loop {
@@ -217,6 +226,7 @@ impl Session {
         ensures others { self.new ≡ record self.old { coming = self.new.coming } }
         ensures coming { (bytes : List ℕ) (messages : List Message) (it : Current) → Stands self.old.framer bytes messages (Some it)
             → it.content ≡ [] → IsUnderWay (limits_of self.old.framer) messages (Some it) self.new.coming }
+        ensures lies { (chunks : ChunksValue) → IfSome self.new.coming (ComingLiesIn chunks) }
     {
         let fields = HeadFields::read(&self.framer);
         let coming = Coming::new(
@@ -225,6 +235,7 @@ impl Session {
             self.framer.minor(),
             self.framer.keeps(),
             self.framer.limits().json,
+            self.framer.content_left(),
         );
         self.coming = Some(coming);
     }
@@ -234,7 +245,8 @@ impl Session {
         ensures others { self.new ≡ record self.old { coming = self.new.coming } }
         ensures coming { (limits : Limits) (messages : List Message) (it : Current) → IsUnderWay limits messages (Some it) self.old.coming
             → IsUnderWay limits messages (Some (record it { content = it.content ++ part.now })) self.new.coming }
-        ensures caller { D.caller desk.new ≡ D.caller desk.old }
+        ensures lies { IfSome self.old.coming (ComingLiesIn (D.stands desk.old).chunks) → IfSome self.new.coming (ComingLiesIn (D.stands desk.old).chunks) }
+        ensures stands { D.stands desk.new ≡ D.stands desk.old }
         ensures lists { AreUnmoved (D.seen desk.old) (D.mine desk.old) (D.seen desk.new) (D.mine desk.new) }
     {
         if let Some(coming) = &mut self.coming {
@@ -244,14 +256,17 @@ impl Session {
 
     // Answers the message under way, which is whole.
     fn answer<C: Clock, D: Desk>(&mut self, desk: &mut D, chunks: &Chunks, clock: &mut C)
-        requires { (head : Head) × (content : List ℕ) × (keeps : Bool) × IsWholeIn (limits_in self.old) head content keeps self.old.coming }
+        requires chunks { (D.stands desk.old).chunks ≡ chunks.now }
+        requires whole { (head : Head) × (content : List ℕ) × (keeps : Bool) × IsWholeIn (limits_in self.old) head content keeps self.old.coming }
+        requires lies { SessionLiesIn chunks.now self.old }
         ensures framer { self.new.framer ≡ self.old.framer }
         ensures answered { (head : Head) (content : List ℕ) (keeps : Bool) → IsWholeIn (limits_in self.old) head content keeps self.old.coming
-            → IsReplied (D.caller desk.old)
+            → IsReplied (D.stands desk.old).caller
             (record { given = C.given clock.old; saw = D.seen desk.old; own = D.mine desk.old })
             (record { given = C.given clock.new; saw = D.seen desk.new; own = D.mine desk.new })
             self.new (whole head content keeps) }
-        ensures caller { D.caller desk.new ≡ D.caller desk.old }
+        ensures lies { SessionLiesIn chunks.now self.new }
+        ensures stands { D.stands desk.new ≡ D.stands desk.old }
     {
         let Some(coming) = self.coming.take() else {
             return;
@@ -266,6 +281,7 @@ impl Session {
         ensures coming { self.new.coming ≡ None }
         ensures closed { self.new.closed ≡ true }
         ensures reply { waiting_in self.new ≡ fault_text fault }
+        ensures lies { (chunks : ChunksValue) → SessionLiesIn chunks self.new }
     {
         self.coming = None;
         self.closed = true;

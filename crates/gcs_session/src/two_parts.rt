@@ -1,11 +1,14 @@
 //! A multipart body while it comes, of which two parts are wanted: JSON, and then the content.
 ghost use Rattle.std.specs.Prelude.{◌≡◌, ◌≤◌, ◌<◌, ◌++◌, ◌∷◌, ℕ, Bool, List, [], length, take, IfOk, OnOk};
+ghost use Rattle.gcs_chunks.specs.Content.{ChunksValue};
 ghost use Rattle.gcs_meaning.specs.Desk.{AreUnmoved};
 ghost use Rattle.gcs_multipart.specs.Delimiter.{IsBoundary};
 ghost use Rattle.gcs_multipart.specs.Grammar.{Part};
 ghost use Rattle.gcs_multipart.specs.Stands.{Stands};
 ghost use Rattle.gcs_request.specs.declared.heading.HeadPart.TheVariants as part;
 ghost use Rattle.gcs_request.specs.Bodies.{IsCome};
+ghost use Rattle.gcs_request.specs.Contents.{ComeLiesIn};
+ghost use Rattle.gcs_session.specs.Contents.{PartsKeptLieIn, TwoPartsLieIn};
 ghost use Rattle.gcs_session.specs.TwoParts.{AreKept, AreRead};
 
 use crate::bounded::{Bounded, TextFault};
@@ -48,7 +51,8 @@ impl TwoParts {
     /// Nothing has come. `Err`: no memory.
     pub fn new(alloc: Global, boundary: &[u8], most: u64) -> Result<TwoParts, AllocError>
         requires { IsBoundary boundary.now }
-        ensures { IfOk result (λ two. AreRead most boundary.now two []) }
+        ensures read { IfOk result (λ two. AreRead most boundary.now two []) }
+        ensures lies { IfOk result (λ two. (chunks : ChunksValue) → TwoPartsLieIn chunks two) }
     {
         Ok(TwoParts {
             alloc,
@@ -61,7 +65,8 @@ impl TwoParts {
     /// Takes more bytes. `Err`: no memory for them.
     pub fn take<D: Desk>(&mut self, desk: &mut D, piece: &[u8]) -> Result<(), AllocError>
         ensures read { OnOk result ((most : ℕ) (boundary bytes : List ℕ) → AreRead most boundary self.old bytes → AreRead most boundary self.new (bytes ++ piece.now)) }
-        ensures caller { D.caller desk.new ≡ D.caller desk.old }
+        ensures lies { TwoPartsLieIn (D.stands desk.old).chunks self.old → TwoPartsLieIn (D.stands desk.old).chunks self.new }
+        ensures stands { D.stands desk.new ≡ D.stands desk.old }
         ensures lists { AreUnmoved (D.seen desk.old) (D.mine desk.old) (D.seen desk.new) (D.mine desk.new) }
     {
         let mut rest = piece;
@@ -78,7 +83,8 @@ impl TwoParts {
         ensures some { IfOk result (λ taken. 0 < taken) }
         ensures within { IfOk result (λ taken. taken ≤ length piece.now) }
         ensures read { IfOk result (λ taken. (most : ℕ) (boundary bytes : List ℕ) → AreRead most boundary self.old bytes → AreRead most boundary self.new (bytes ++ take taken piece.now)) }
-        ensures caller { D.caller desk.new ≡ D.caller desk.old }
+        ensures lies { TwoPartsLieIn (D.stands desk.old).chunks self.old → TwoPartsLieIn (D.stands desk.old).chunks self.new }
+        ensures stands { D.stands desk.new ≡ D.stands desk.old }
         ensures lists { AreUnmoved (D.seen desk.old) (D.mine desk.old) (D.seen desk.new) (D.mine desk.new) }
     {
         match self.parts.feed(piece) {
@@ -103,6 +109,7 @@ impl TwoParts {
         ensures others { self.new ≡ record self.old { kept = self.new.kept } }
         ensures kept { OnOk result ((boundary bytes head : List ℕ) (whole parts : List Part) → Stands self.old.parts boundary bytes whole (Some record { head = head; content = [] })
             → AreKept self.old.most self.old.kept parts → AreKept self.old.most self.new.kept (record { head = head; content = [] } ∷ parts)) }
+        ensures lies { (chunks : ChunksValue) → TwoPartsLieIn chunks self.new }
     {
         let kept = mem::replace(&mut self.kept, PartsKept::Others);
         self.kept = kept.with_part(self.alloc, self.most, &self.parts)?;
@@ -113,7 +120,8 @@ impl TwoParts {
     pub fn finish<D: Desk>(self, desk: &mut D) -> Result<Come, AllocError>
         requires { (most : ℕ) × (boundary : List ℕ) × (bytes : List ℕ) × AreRead most boundary self bytes }
         ensures come { IfOk result (λ come. (most : ℕ) (boundary bytes : List ℕ) (encoded : Bool) → AreRead most boundary self bytes → IsCome most (part.Parts boundary encoded) bytes come) }
-        ensures caller { D.caller desk.new ≡ D.caller desk.old }
+        ensures lies { IfOk result (λ come. TwoPartsLieIn (D.stands desk.old).chunks self → ComeLiesIn (D.stands desk.old).chunks come) }
+        ensures stands { D.stands desk.new ≡ D.stands desk.old }
         ensures lists { AreUnmoved (D.seen desk.old) (D.mine desk.old) (D.seen desk.new) (D.mine desk.new) }
     {
         let TwoParts { parts, kept, .. } = self;
@@ -152,8 +160,9 @@ impl TwoParts {
 impl PartsKept {
     // Once a further part begins, whose lines have come. `Err`: no memory.
     fn with_part(self, alloc: Global, most: u64, reader: &Parts) -> Result<PartsKept, AllocError>
-        ensures { IfOk result (λ kept. (boundary bytes head : List ℕ) (whole parts : List Part) → Stands reader.now boundary bytes whole (Some record { head = head; content = [] })
+        ensures kept { IfOk result (λ kept. (boundary bytes head : List ℕ) (whole parts : List Part) → Stands reader.now boundary bytes whole (Some record { head = head; content = [] })
             → AreKept most self parts → AreKept most kept (record { head = head; content = [] } ∷ parts)) }
+        ensures lies { IfOk result (λ kept. (chunks : ChunksValue) → PartsKeptLieIn chunks kept) }
     {
         match self {
             PartsKept::Nothing => Ok(PartsKept::One(Bounded::new(alloc, most))),
@@ -161,7 +170,7 @@ impl PartsKept {
                 Ok(kind) => Ok(PartsKept::Two {
                     text,
                     kind,
-                    content: Hashing::new(alloc),
+                    content: Hashing::new(alloc, 0),
                 }),
                 Err(error) => {
                     drop(text);
@@ -177,7 +186,8 @@ impl PartsKept {
     fn add<D: Desk>(&mut self, desk: &mut D, part: &[u8]) -> Result<(), AllocError>
         ensures kept { OnOk result ((most : ℕ) (head content : List ℕ) (parts : List Part) → AreKept most self.old (record { head = head; content = content } ∷ parts)
             → AreKept most self.new (record { head = head; content = content ++ part.now } ∷ parts)) }
-        ensures caller { D.caller desk.new ≡ D.caller desk.old }
+        ensures lies { PartsKeptLieIn (D.stands desk.old).chunks self.old → PartsKeptLieIn (D.stands desk.old).chunks self.new }
+        ensures stands { D.stands desk.new ≡ D.stands desk.old }
         ensures lists { AreUnmoved (D.seen desk.old) (D.mine desk.old) (D.seen desk.new) (D.mine desk.new) }
     {
         match self {

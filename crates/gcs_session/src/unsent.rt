@@ -16,11 +16,15 @@ pub struct Unsent {
 }
 
 impl Unsent {
+    ghost use Rattle.gcs_chunks.specs.Content.{ChunksValue};
+    ghost use Rattle.gcs_reply.specs.Outgoing.{OutgoingLiesIn};
+    ghost use Rattle.gcs_session.specs.Contents.{UnsentLiesIn};
     ghost use Rattle.gcs_session.specs.Unsent.{unsent_bytes};
 
     /// The whole of a text.
     pub fn new(text: Outgoing) -> Unsent
-        ensures { unsent_bytes result ≡ outgoing_bytes text }
+        ensures bytes { unsent_bytes result ≡ outgoing_bytes text }
+        ensures lies { (chunks : ChunksValue) → OutgoingLiesIn chunks text → UnsentLiesIn chunks result }
     {
         let size = text.len();
         Unsent {
@@ -38,9 +42,11 @@ impl Unsent {
 
     /// Gives out the first bytes, as many as fit.
     pub fn give(&mut self, chunks: &Chunks, into: &mut [u8]) -> usize
+        requires lies { UnsentLiesIn chunks.now self.old }
         ensures count { result ≡ min (length into.old) (length (unsent_bytes self.old)) }
         ensures bytes { take result into.new ≡ take result (unsent_bytes self.old) }
         ensures rest { unsent_bytes self.new ≡ drop result (unsent_bytes self.old) }
+        ensures lies { UnsentLiesIn chunks.now self.new }
     {
         let count = self.text.read(chunks, self.sent, into);
         self.sent += count as u64;

@@ -2,6 +2,7 @@
 ghost use Rattle.std.specs.Prelude.{◌≡◌, ◌<◌, ℕ, List, length, OnOk};
 ghost use Rattle.gcs_io.specs.Causes.{HasCause};
 ghost use Rattle.gcs_io.specs.Told.{Gains};
+ghost use Rattle.gcs_session.specs.Contents.{SessionLiesIn};
 ghost use Rattle.gcs_session.specs.Session.{waiting_in, IsDrained};
 ghost use Rattle.gcs_session.specs.Writing.{IsWritten};
 
@@ -31,9 +32,11 @@ pub fn write_waiting<K: Sink>(
     sink: &mut K,
     block: &mut [u8],
 ) -> Result<(), Failed>
-    requires { 0 < length block.old }
+    requires block { 0 < length block.old }
+    requires lies { SessionLiesIn chunks.now session.old }
     ensures drained { OnOk result (IsDrained session.old session.new) }
     ensures written { (w : List ℕ) × Gains (K.written sink.old) (K.written sink.new) w × IsWritten (waiting_in session.old) w result }
+    ensures lies { SessionLiesIn chunks.now session.new }
     ensures cause { HasCause (K.faults sink.old) (K.faults sink.new) result }
 {
     'waiting: while session.waits() {

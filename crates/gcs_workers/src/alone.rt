@@ -91,8 +91,9 @@ fn open_bucket<C: Clock>(
     bucket: Option<BucketName>,
 ) -> Result<(), AllocError>
     requires { (s : ℕ) → history_at desk.old s ≡ [] }
-    ensures { OnOk result ((opening : List ℕ) × Gains (C.given clock.old) (C.given clock.new) opening
+    ensures opened { OnOk result ((opening : List ℕ) × Gains (C.given clock.old) (C.given clock.new) opening
         × IsOpened bucket opening (history_at desk.new)) }
+    ensures chunks { desk.new.chunks ≡ desk.old.chunks }
 {
     let Some(bucket) = bucket else {
         return Ok(());

@@ -26,7 +26,7 @@ pub enum ServeEnd {
 }
 
 /// Serves the connections of a listener one after another, each to its end, until none comes or the listener fails. How
-/// a connection ends is no reason to stop.
+/// a connection ends is no reason to stop. The chunks are those of the desk.
 ///
 /// It may wait for a connection, or for bytes of one, without an end.
 pub fn serve_in_turn<R: Wait, L: Listen, D: Desk>(
@@ -37,12 +37,13 @@ pub fn serve_in_turn<R: Wait, L: Listen, D: Desk>(
     listen: &mut L,
     limits: &Limits,
 ) -> ServeEnd
-    requires { IsAllowed limits.now }
+    requires allowed { IsAllowed limits.now }
+    requires chunks { (D.stands desk.old).chunks ≡ chunks.now }
 
     // Each connection that the listener gave was served, in order, and each began with what the one before left.
     ensures served { (connections : List Served) × Loses (L.pending listen.old) (L.pending listen.new) (map first_of connections)
-        × AreServed limits.now (D.caller desk.old) connections (D.seen desk.old) (D.mine desk.old) (D.seen desk.new) (D.mine desk.new) }
-    ensures caller { D.caller desk.new ≡ D.caller desk.old }
+        × AreServed limits.now (D.stands desk.old).caller connections (D.seen desk.old) (D.mine desk.old) (D.seen desk.new) (D.mine desk.new) }
+    ensures stands { D.stands desk.new ≡ D.stands desk.old }
 
     // The listener's counts say why it stopped. Where the listener told its connections, none is pending at the end.
     ensures ended { result ≡ ServeEnd.Ended → Rose (L.end_count listen.old) (L.end_count listen.new) × IsOver (L.pending listen.new) }
@@ -68,11 +69,12 @@ fn serve_pair<S: Source, K: Sink, C: Clock, D: Desk>(
     mut pair: Pair<S, K, C>,
     limits: &Limits,
 ) -> SessionEnd
-    requires { IsAllowed limits.now }
-    ensures served { (last : Told) × (ended : Bool) × IsServed limits.now (D.caller desk.old)
+    requires allowed { IsAllowed limits.now }
+    requires chunks { (D.stands desk.old).chunks ≡ chunks.now }
+    ensures served { (last : Told) × (ended : Bool) × IsServed limits.now (D.stands desk.old).caller
         (outside_of (told (S.rest pair.source) (S.taken pair.source) (K.written pair.sink) (C.given pair.clock)) (D.seen desk.old) (D.mine desk.old))
         (outside_of last (D.seen desk.new) (D.mine desk.new)) ended result }
-    ensures caller { D.caller desk.new ≡ D.caller desk.old }
+    ensures stands { D.stands desk.new ≡ D.stands desk.old }
 {
     serve_connection(
         alloc,

@@ -3,8 +3,8 @@ use Rattle.gcs_http_out.specs.Head.{status_line, length_line, ending_line, line_
 use Rattle.gcs_reply.proofs.Heads.{alone-written}
 use Rattle.gcs_reply.proofs.resumable.cancelled_reply.Goals as goal
 
-pub returns : goal.returns
-returns c =
+pub returns-clause-text : goal.returns-clause-text
+returns-clause-text c =
     let end : List ℕ = length_line (Some 0) ++ (ending_line c.args.form.ending ++ line_end) in
     let empty : c.in_ok-head.head.items ≡ [] = search rules in
     let begun = c.in_ok-push_status.ensures ∙ ap (λ (text : List ℕ). text ++ status_line 499) empty in

@@ -3,8 +3,8 @@ use Rattle.gcs_http_out.specs.Head.{status_line, length_line, ending_line, line_
 use Rattle.gcs_reply.proofs.Heads.{head-written}
 use Rattle.gcs_reply.proofs.writing.bare_reply.Goals as goal
 
-pub returns : goal.returns
-returns c =
+pub returns-clause-text : goal.returns-clause-text
+returns-clause-text c =
     let status : ℕ = c.args.status in
     let ending = c.args.form.ending in
     let end : List ℕ = length_line None ++ (ending_line ending ++ line_end) in

@@ -1,5 +1,5 @@
 -- What is given by each part, and the refusal of a JSON body.
-use Rattle.std.proofs.Common.{◌≡◌, ◌≤◌, ◌∙◌, ℕ, List, Bool, true, Some, Result, Ok, Err, length, subst, sym}
+use Rattle.std.proofs.Common.{◌≡◌, ◌≤◌, ◌∙◌, ℕ, List, Bool, true, Some, Result, Ok, Err, length, arith, subst, sym}
 use Rattle.std.specs.Prelude.{IfOk}
 use Rattle.std.proofs.lemmas.Result.{IfErr-weaker, IfOk-weaker}
 use Rattle.gcs_chunks.specs.Content.{bytes_of, Whole}
@@ -7,6 +7,7 @@ use Rattle.gcs_http_in.specs.Head.{Head}
 use Rattle.gcs_route.specs.declared.call.Call.{Call}
 use Rattle.gcs_route.specs.declared.kind.RequestKind.{RequestKind}
 use Rattle.gcs_route.specs.declared.kind.RequestKind.TheVariants.{UploadPiece}
+use Rattle.gcs_route.specs.Kinds.{row_of}
 use Rattle.gcs_route.specs.OfCall.{request_kind}
 use Rattle.gcs_rewrite.specs.declared.request.Given.{Given}
 use Rattle.gcs_rewrite.specs.declared.request.Given.TheVariants as given
@@ -19,10 +20,12 @@ use Rattle.gcs_request.specs.declared.bodies.Come.TheVariants as come
 use Rattle.gcs_request.specs.declared.piece_ranges.PieceRange.{PieceRange}
 use Rattle.gcs_request.specs.declared.json_bodies.GivenFault.{GivenFault}
 use Rattle.gcs_request.specs.Bodies.{IsCome}
+use Rattle.gcs_request.specs.Contents.{ComeLiesIn}
 use Rattle.gcs_request.specs.Heading.{IsHeading}
-use Rattle.gcs_request.specs.JsonBodies.{brings_json, json_refusal}
+use Rattle.gcs_request.specs.JsonBodies.{brings_json, json_kind, json_refusal}
 use Rattle.gcs_request.specs.Requests.{IsBodyFault, IsGiven}
 use Rattle.gcs_request.proofs.Fitting.{fits_json, fits_nothing, fits_piece, fits_read, fits_whole}
+use Rattle.gcs_request.proofs.GivenLies.{said_lies}
 use Rattle.gcs_request.proofs.requests.given_of.Goals as goal
 
 -- what is read of a JSON body fits the call
@@ -59,6 +62,15 @@ pub returns-in-Content-clause-fits : goal.returns-in-Content-clause-fits
 returns-in-Content-clause-fits c = λ head is.
     subst (λ body. Fits (record { call = c.args.call.now; given = given.Whole body c.in-Whole.kind c.in-Content.hashed })) (sym c.says_nothing.ensures)
     (fits_whole head c.args.call.now c.in-Whole.kind c.in-Content.hashed (subst (λ part. IsHeading head (Asks c.args.call.now part)) c.in-Whole.is is))
+
+pub returns-in-Content-clause-lies : goal.returns-in-Content-clause-lies
+returns-in-Content-clause-lies c = λ chunks lies. subst (ComeLiesIn chunks) c.in-Content.is lies
+
+pub returns-in-Text-clause-lies : goal.returns-in-Text-clause-lies
+returns-in-Text-clause-lies c =
+    IfOk-weaker c.read_given.result _ _
+    (λ given said chunks lies. said_lies chunks (json_kind c.kind.result) (row_of c.kind.result) c.deref.result.now given (said (length c.deref.result.now) (omega arith)).1)
+    c.read_given.ensures.given
 
 pub returns-in-Text-clause-fits : goal.returns-in-Text-clause-fits
 returns-in-Text-clause-fits c =
@@ -130,6 +142,11 @@ returns-in-Piece-body-clause-refused c =
     (λ fault refused reason is most bytes come. subst (λ part. IsBodyFault most c.args.call.now part bytes reason) (sym c.in-Piece.is)
     (refused reason is most c.args.call.now bytes (piece_come most bytes c.args.part c.in-Piece.range c.args.body c.in-Piece-body.content c.in-Piece.is c.in-Piece-body.is come)))
     c.given_of_piece.ensures.refused
+
+pub returns-in-Piece-body-clause-lies : goal.returns-in-Piece-body-clause-lies
+returns-in-Piece-body-clause-lies c =
+    IfOk-weaker c.given_of_piece.result _ _
+    (λ given is chunks lies. is chunks (subst (ComeLiesIn chunks) c.in-Piece-body.is lies)) c.given_of_piece.ensures.lies
 
 pub returns-in-Piece-body-clause-fits : goal.returns-in-Piece-body-clause-fits
 returns-in-Piece-body-clause-fits c =

@@ -2,6 +2,7 @@
 use Rattle.std.proofs.Common.{◌≡◌, ◌∙◌, ℕ, List, Bool, inr, subst, sym}
 use Rattle.gcs_request.specs.declared.heading.HeadPart.TheVariants.{Parts}
 use Rattle.gcs_request.specs.Bodies.{IsCome}
+use Rattle.gcs_request.specs.Contents.{ComeLiesIn}
 use Rattle.gcs_request.specs.Parts.{IsPartsFault, IsTwo}
 use Rattle.gcs_request.specs.UploadJson.{IsJsonFault}
 use Rattle.gcs_request.proofs.Fitting.{fits_parts}
@@ -14,6 +15,9 @@ returns-in-Two-2-clause-refused c = λ reason is most boundary bytes come.
     let fault : IsJsonFault c.args.call.now two.json.content reason = subst (λ (l : List ℕ). IsJsonFault c.args.call.now l reason) same (c.in-Err.ensures.refused reason is) in
     subst (λ (encoded : Bool). IsPartsFault most c.args.call.now boundary encoded bytes reason) (sym c.if-encoded-2.false)
     (inr (two.short, inr (two.json, two.content, two.two, fault)))
+
+pub returns-in-Ok-clause-lies : goal.returns-in-Ok-clause-lies
+returns-in-Ok-clause-lies c = λ chunks lies. subst (ComeLiesIn chunks) c.in-Two.is lies
 
 pub returns-in-Ok-clause-fits : goal.returns-in-Ok-clause-fits
 returns-in-Ok-clause-fits c = λ head boundary is.

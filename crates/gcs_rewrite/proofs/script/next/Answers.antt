@@ -1,4 +1,4 @@
--- Each move is that of the script, and may come after the answers so far.
+-- Each move is that of the script, may come after the answers so far, and lies where they and the request lie.
 use Rattle.std.proofs.Common.{◌≡◌, ◌≢◌, ◌∙◌, ◌⊎◌, inl, inr, List, ap, refl, sym}
 use Rattle.std.proofs.lemmas.Result.{IfOk-weaker}
 use Rattle.gcs_meaning.specs.declared.command.Answer.{Answer}
@@ -15,6 +15,7 @@ use Rattle.gcs_rewrite.specs.Copies.{copy_script}
 use Rattle.gcs_rewrite.specs.Resumable.{resume_script}
 use Rattle.gcs_rewrite.specs.Scripts.{script, script_on, single_script}
 use Rattle.gcs_rewrite.proofs.Allowed.{script_may}
+use Rattle.gcs_rewrite.proofs.ScriptLies.{script_lies}
 use Rattle.gcs_rewrite.proofs.script.next.Goals as goal
 
 -- the script of a list of buckets, that of a piece, and that of every other call
@@ -46,7 +47,13 @@ returns-in-BucketList-clause-next c =
 pub returns-in-BucketList-clause-allowed : goal.returns-in-BucketList-clause-allowed
 returns-in-BucketList-clause-allowed c =
     IfOk-weaker c.list_buckets.result _ _
-    (λ next is. script_may c.args.request.now c.args.answers.now next c.requires (is ∙ of_buckets c.args.request.now c.args.answers.now c.in-BucketList.ensures))
+    (λ next is. script_may c.args.request.now c.args.answers.now next c.requires.fits (is ∙ of_buckets c.args.request.now c.args.answers.now c.in-BucketList.ensures))
+    c.list_buckets.ensures
+
+pub returns-in-BucketList-clause-lies : goal.returns-in-BucketList-clause-lies
+returns-in-BucketList-clause-lies c =
+    IfOk-weaker c.list_buckets.result _ _
+    (λ next is. script_lies c.args.chunks.now c.args.request.now c.args.answers.now next c.requires.contents c.requires.answers (is ∙ of_buckets c.args.request.now c.args.answers.now c.in-BucketList.ensures))
     c.list_buckets.ensures
 
 pub returns-in-UploadPiece-clause-next : goal.returns-in-UploadPiece-clause-next
@@ -56,7 +63,13 @@ returns-in-UploadPiece-clause-next c =
 pub returns-in-UploadPiece-clause-allowed : goal.returns-in-UploadPiece-clause-allowed
 returns-in-UploadPiece-clause-allowed c =
     IfOk-weaker c.next_piece.result _ _
-    (λ next is. script_may c.args.request.now c.args.answers.now next c.requires (is ∙ of_pieces c.args.request.now c.args.answers.now c.in-UploadPiece.ensures))
+    (λ next is. script_may c.args.request.now c.args.answers.now next c.requires.fits (is ∙ of_pieces c.args.request.now c.args.answers.now c.in-UploadPiece.ensures))
+    c.next_piece.ensures
+
+pub returns-in-UploadPiece-clause-lies : goal.returns-in-UploadPiece-clause-lies
+returns-in-UploadPiece-clause-lies c =
+    IfOk-weaker c.next_piece.result _ _
+    (λ next is. script_lies c.args.chunks.now c.args.request.now c.args.answers.now next c.requires.contents c.requires.answers (is ∙ of_pieces c.args.request.now c.args.answers.now c.in-UploadPiece.ensures))
     c.next_piece.ensures
 
 pub returns-in_default : goal.returns-in_default
@@ -64,7 +77,8 @@ returns-in_default c =
     let same = of_others c.args.request.now c.args.answers.now (λ is. c.in_default.not-BucketList (c.kind.ensures ∙ is)) (λ is. c.in_default.not-ObjectRewrite (c.kind.ensures ∙ is)) (λ is. c.in_default.not-ObjectCopy (c.kind.ensures ∙ is)) (λ is. c.in_default.not-UploadPiece (c.kind.ensures ∙ is)) in
     record {
       next = IfOk-weaker c.next_single.result _ _ (λ next is. is ∙ same) c.next_single.ensures;
-      allowed = IfOk-weaker c.next_single.result _ _ (λ next is. script_may c.args.request.now c.args.answers.now next c.requires (is ∙ same)) c.next_single.ensures;
+      allowed = IfOk-weaker c.next_single.result _ _ (λ next is. script_may c.args.request.now c.args.answers.now next c.requires.fits (is ∙ same)) c.next_single.ensures;
+      lies = IfOk-weaker c.next_single.result _ _ (λ next is. script_lies c.args.chunks.now c.args.request.now c.args.answers.now next c.requires.contents c.requires.answers (is ∙ same)) c.next_single.ensures;
     }
 
 copy_on : (kind : RequestKind) (call : Call) (body : ObjectBody) (answers : List Answer) → (kind ≡ ObjectRewrite) ⊎ (kind ≡ ObjectCopy)
@@ -89,4 +103,9 @@ returns-in-Object-clause-next c =
 pub returns-in-Object-clause-allowed : goal.returns-in-Object-clause-allowed
 returns-in-Object-clause-allowed c =
     let same = of_copy c.args.request.now c.kind.result c.in-Object.body c.args.answers.now c.in-ObjectRewrite.is c.kind.ensures c.in-Object.is in
-    IfOk-weaker c.next_copy.result _ _ (λ next is. script_may c.args.request.now c.args.answers.now next c.requires (is ∙ same)) c.next_copy.ensures
+    IfOk-weaker c.next_copy.result _ _ (λ next is. script_may c.args.request.now c.args.answers.now next c.requires.fits (is ∙ same)) c.next_copy.ensures
+
+pub returns-in-Object-clause-lies : goal.returns-in-Object-clause-lies
+returns-in-Object-clause-lies c =
+    let same = of_copy c.args.request.now c.kind.result c.in-Object.body c.args.answers.now c.in-ObjectRewrite.is c.kind.ensures c.in-Object.is in
+    IfOk-weaker c.next_copy.result _ _ (λ next is. script_lies c.args.chunks.now c.args.request.now c.args.answers.now next c.requires.contents c.requires.answers (is ∙ same)) c.next_copy.ensures

@@ -1,6 +1,7 @@
 use Rattle.std.proofs.Common.{◌≡◌, ◌≤◌, [], false, length}
 use Rattle.gcs_session.specs.Along.{IsAlong}
 use Rattle.gcs_session.specs.Connection.{Outside}
+use Rattle.gcs_session.specs.Contents.{SessionLiesIn}
 use Rattle.gcs_session.proofs.connection.serve_connection.Given as goal
 
 abbrev pub invariant-pieces : goal.invariant-pieces
@@ -15,8 +16,9 @@ invariant-pieces g l =
       reads : length l.wire.reads.items ≡ 65536;
       writes : length l.wire.writes.items ≡ 65536;
       stays : l.wire.session.closed ≡ false;
-      who : d.caller l.desk ≡ d.caller l.fn.desk;
-      along : (x : IsAlong l.limits (d.caller l.fn.desk) before here l.wire.session []) × (l.turn ≤ length x.fed);
+      stands : d.stands l.desk ≡ d.stands l.fn.desk;
+      lies : SessionLiesIn l.chunks l.wire.session;
+      along : (x : IsAlong l.limits (d.stands l.fn.desk).caller before here l.wire.session []) × (l.turn ≤ length x.fed);
       source_faults : s.faults l.fn.source ≤ s.faults l.source;
       sink_faults : k.faults l.fn.sink ≤ k.faults l.sink;
     }

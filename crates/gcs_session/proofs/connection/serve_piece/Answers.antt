@@ -8,18 +8,22 @@ use Rattle.gcs_session.specs.Session.{IsDrained, IsFed, limits_in, waiting_in}
 use Rattle.gcs_session.proofs.Alongs.{along-broken, fed-close, fed-drained, fed-more, seen_of}
 use Rattle.gcs_session.proofs.Blocks.{on-ok, written-part, written-whole}
 use Rattle.gcs_session.proofs.Drops.{rest-whole}
+use Rattle.gcs_session.proofs.Standings.{same_caller, same_chunks}
 use Rattle.gcs_session.proofs.connection.serve_piece.Goals as goal
+
+pub feed-fed-requires-clause-chunks : goal.feed-fed-requires-clause-chunks
+feed-fed-requires-clause-chunks g c = same_chunks c.messages.invariant.stands ∙ c.requires.chunks
 
 pub returns-in-More-clause-along : goal.returns-in-More-clause-along
 returns-in-More-clause-along g c = λ limits a left taken entry.
     let d = g.D.Desk in
     let i = c.messages.invariant in
     let e = c.feed-fed.ensures in
-    let k : ℕ = d.caller c.args.desk.now in
+    let k : ℕ = (d.stands c.args.desk.now).caller in
     let b : Outside = record { left = left; taken = taken; written = g.K.Sink.written c.messages.sink; given = g.C.Clock.given c.messages.clock; saw = d.seen c.messages.desk; own = d.mine c.messages.desk } in
     let f : Outside = record { left = left; taken = taken; written = g.K.Sink.written c.messages.sink; given = g.C.Clock.given c.feed-fed.new.clock; saw = d.seen c.feed-fed.new.desk; own = d.mine c.feed-fed.new.desk } in
     let x = (i.along limits a left taken entry).0 in
-    let fed = subst (λ n. IsFed n (seen_of b) (seen_of f) c.feed-fed.new.self c.messages.rest.now c.feed-fed.result x.fed x.messages x.text x.text) i.caller (e.fed x.fed x.messages x.text x.text x.session) in
+    let fed = subst (λ n. IsFed n (seen_of b) (seen_of f) c.feed-fed.new.self c.messages.rest.now c.feed-fed.result x.fed x.messages x.text x.text) (same_caller i.stands) (e.fed x.fed x.messages x.text x.text x.session) in
     let z = fed-more limits k a b f c.messages.session c.feed-fed.new.self c.messages.rest.now c.feed-fed.result x (record { left = refl; taken = refl; written = refl }) fed e.limits e.want c.in-More.is in
     (z.0, z.1, omega (arith, z.2, (i.along limits a left taken entry).1))
 
@@ -28,11 +32,11 @@ returns-in-Close-clause-along g c = λ limits a left taken entry ended.
     let d = g.D.Desk in
     let i = c.messages.invariant in
     let e = c.feed-fed.ensures in
-    let k : ℕ = d.caller c.args.desk.now in
+    let k : ℕ = (d.stands c.args.desk.now).caller in
     let b : Outside = record { left = left; taken = taken; written = g.K.Sink.written c.messages.sink; given = g.C.Clock.given c.messages.clock; saw = d.seen c.messages.desk; own = d.mine c.messages.desk } in
     let f : Outside = record { left = left; taken = taken; written = g.K.Sink.written c.messages.sink; given = g.C.Clock.given c.feed-fed.new.clock; saw = d.seen c.feed-fed.new.desk; own = d.mine c.feed-fed.new.desk } in
     let x = (i.along limits a left taken entry).0 in
-    let fed = subst (λ n. IsFed n (seen_of b) (seen_of f) c.feed-fed.new.self c.messages.rest.now c.feed-fed.result x.fed x.messages x.text x.text) i.caller (e.fed x.fed x.messages x.text x.text x.session) in
+    let fed = subst (λ n. IsFed n (seen_of b) (seen_of f) c.feed-fed.new.self c.messages.rest.now c.feed-fed.result x.fed x.messages x.text x.text) (same_caller i.stands) (e.fed x.fed x.messages x.text x.text x.session) in
     fed-close limits k a b f c.messages.session c.feed-fed.new.self c.messages.rest.now c.feed-fed.result x (record { left = refl; taken = refl; written = refl }) fed e.limits e.want c.in-Close.is ended
 
 pub returns-then-is_err-clause-along : goal.returns-then-is_err-clause-along
@@ -40,11 +44,11 @@ returns-then-is_err-clause-along g c = λ limits a left taken entry.
     let d = g.D.Desk in
     let i = c.messages.invariant in
     let e = c.feed-fed.ensures in
-    let k : ℕ = d.caller c.args.desk.now in
+    let k : ℕ = (d.stands c.args.desk.now).caller in
     let b : Outside = record { left = left; taken = taken; written = g.K.Sink.written c.messages.sink; given = g.C.Clock.given c.messages.clock; saw = d.seen c.messages.desk; own = d.mine c.messages.desk } in
     let f : Outside = record { left = left; taken = taken; written = g.K.Sink.written c.messages.sink; given = g.C.Clock.given c.feed-fed.new.clock; saw = d.seen c.feed-fed.new.desk; own = d.mine c.feed-fed.new.desk } in
     let x = (i.along limits a left taken entry).0 in
-    let fed = subst (λ n. IsFed n (seen_of b) (seen_of f) c.feed-fed.new.self c.messages.rest.now c.feed-fed.result x.fed x.messages x.text x.text) i.caller (e.fed x.fed x.messages x.text x.text x.session) in
+    let fed = subst (λ n. IsFed n (seen_of b) (seen_of f) c.feed-fed.new.self c.messages.rest.now c.feed-fed.result x.fed x.messages x.text x.text) (same_caller i.stands) (e.fed x.fed x.messages x.text x.text x.session) in
     let told = c.write_waiting.ensures.written in
     let part = written-part (waiting_in c.feed-fed.new.self) told.0 c.write_waiting.result (sym c.is_err.ensures.value ∙ c.if-is_err.true) told.2 in
     along-broken limits k a b f (g.K.Sink.written c.write_waiting.new.sink) c.messages.session c.feed-fed.new.self c.messages.rest.now c.feed-fed.result told.0 part.0 x (record { left = refl; taken = refl; written = refl })
@@ -55,7 +59,7 @@ messages-preserved g c =
     let d = g.D.Desk in
     let i = c.messages.invariant in
     let e = c.feed-fed.ensures in
-    let k : ℕ = d.caller c.args.desk.now in
+    let k : ℕ = (d.stands c.args.desk.now).caller in
     let rest : List ℕ = c.messages.rest.now in
     let n : ℕ = c.feed-fed.result.taken in
     let ok = sym c.is_err.ensures.value ∙ c.if-is_err.false in
@@ -67,14 +71,15 @@ messages-preserved g c =
     × (length z.messages ≡ length x.messages + 1) × (length z.fed + length (take (length rest - n) (drop n rest)) ≡ length x.fed + length rest) = λ limits a left taken x.
     let b : Outside = record { left = left; taken = taken; written = g.K.Sink.written c.messages.sink; given = g.C.Clock.given c.messages.clock; saw = d.seen c.messages.desk; own = d.mine c.messages.desk } in
     let f : Outside = record { left = left; taken = taken; written = g.K.Sink.written c.messages.sink; given = g.C.Clock.given c.feed-fed.new.clock; saw = d.seen c.feed-fed.new.desk; own = d.mine c.feed-fed.new.desk } in
-    let fed = subst (λ n. IsFed n (seen_of b) (seen_of f) c.feed-fed.new.self rest c.feed-fed.result x.fed x.messages x.text x.text) i.caller (e.fed x.fed x.messages x.text x.text x.session) in
+    let fed = subst (λ n. IsFed n (seen_of b) (seen_of f) c.feed-fed.new.self rest c.feed-fed.result x.fed x.messages x.text x.text) (same_caller i.stands) (e.fed x.fed x.messages x.text x.text x.session) in
     fed-drained limits k a b f (g.K.Sink.written c.write_waiting.new.sink) c.messages.session c.feed-fed.new.self c.write_waiting.new.session rest (take (length rest - n) (drop n rest)) told.0 c.feed-fed.result x
     (record { left = refl; taken = refl; written = refl }) fed e.limits e.want c.in-Drain.is drained told.1 (written-whole (waiting_in c.feed-fed.new.self) told.0 c.write_waiting.result ok told.2) (rest-whole rest n) in
     let s = i.some in
     let here = step s.0 s.1 s.2 s.3 s.4 in
     record {
       block = omega (arith, i.block, c.write_waiting.auto.block);
-      caller = e.caller ∙ i.caller;
+      stands = e.stands ∙ i.stands;
+      lies = c.write_waiting.ensures.lies;
       faults = omega (arith, i.faults, c.write_waiting.ensures.cause.later);
       some = (s.0, s.1, s.2, s.3, here.0, omega (arith, here.1, s.5));
       along = λ limits a left taken entry.
@@ -96,7 +101,8 @@ messages-init g c =
     let w = c.requires.along in
     record {
       block = c.requires.block;
-      caller = refl;
+      stands = refl;
+      lies = c.requires.lies;
       faults = omega arith;
       some = (w.0, w.1, w.2, w.3, w.4, omega arith);
       along = λ limits a left taken entry. (entry, omega arith);

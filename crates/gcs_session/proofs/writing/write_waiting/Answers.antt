@@ -35,6 +35,7 @@ waiting-preserved g c =
     let told = c.in_ok-write_all.ensures.written in
     record {
       block = omega (arith, i.block, c.drain-count.auto.into);
+      lies = d.lies;
       limits = d.limits ∙ i.limits;
       closed = d.closed ∙ i.closed;
       session = λ bytes messages text drained x.

@@ -1,6 +1,7 @@
 use Rattle.std.proofs.Common.{◌≡◌, ◌≤◌, ◌<◌, ◌++◌, ℕ, List, length}
 use Rattle.gcs_io.specs.Told.{Gains}
 use Rattle.gcs_http_in.specs.Message.{Message}
+use Rattle.gcs_session.specs.Contents.{SessionLiesIn}
 use Rattle.gcs_session.specs.Session.{IsSession, limits_in, waiting_in}
 use Rattle.gcs_session.proofs.writing.write_waiting.Given as goal
 
@@ -9,6 +10,7 @@ invariant-waiting g l =
     let k = g.K.Sink in
     record {
       block : 0 < length l.block;
+      lies : SessionLiesIn l.chunks l.session;
       limits : limits_in l.session ≡ limits_in l.fn.session;
       closed : l.session.closed ≡ l.fn.session.closed;
       session : (bytes : List ℕ) (messages : List Message) (text drained : List ℕ) → IsSession l.fn.session bytes messages text drained

@@ -15,7 +15,7 @@ returns-clause-served g c =
     let k = g.C.Clock in
     let start = history_at c.open_bucket.new.desk in
     let last = history_at c.serve_connection-end.new.desk in
-    let opened = c.in-Ok-open_bucket.ensures in
+    let opened = c.in-Ok-open_bucket.ensures.opened in
     let Q : Limits → Type 0 = λ l. IsServed l 0
     (outside_of (record { left = i.rest c.args.input.now; taken = i.taken c.args.input.now; written = o.written c.args.output.now; given = k.given c.open_bucket.new.clock }) start start)
     (outside_of (record { left = i.rest c.serve_connection-end.new.source; taken = i.taken c.serve_connection-end.new.source; written = o.written c.serve_connection-end.new.sink; given = k.given c.serve_connection-end.new.clock }) last last)
@@ -32,3 +32,6 @@ returns-clause-served g c =
       served = subst Q c.usual-limits.ensures c.serve_connection-end.ensures.served;
       status_is = c.number-2.ensures ∙ ap status_number c.status_of_session.ensures;
     })
+
+pub serve_connection-end-requires-clause-chunks : goal.serve_connection-end-requires-clause-chunks
+serve_connection-end-requires-clause-chunks g c = c.open_bucket.ensures.chunks ∙ c.in-Ok-new.ensures.chunks

@@ -14,7 +14,10 @@ returns-clause-served g c _ =
       connections = s.0;
       handed_out = s.1;
       start = start;
-      empty = c.in-Ok-new.ensures;
+      empty = c.in-Ok-new.ensures.empty;
       last = last;
       served = subst P c.usual-limits.ensures s.2;
     }
+
+pub serve_in_turn-end-requires-clause-chunks : goal.serve_in_turn-end-requires-clause-chunks
+serve_in_turn-end-requires-clause-chunks g c = c.in-Ok-new.ensures.chunks

@@ -1,6 +1,7 @@
 use Rattle.std.proofs.Common.{◌∙◌, ℕ, ◌∷◌, [], subst, arith}
 use Rattle.gcs_io.specs.Told.{Loses}
 use Rattle.gcs_session.specs.Connection.{IsServed}
+use Rattle.gcs_session.proofs.Standings.{same_caller, same_chunks}
 use Rattle.gcs_workers.specs.Told.{outside_of, told}
 use Rattle.gcs_workers.specs.Serving.{Served}
 use Rattle.gcs_workers.proofs.ServingLemmas.{done-more}
@@ -21,10 +22,13 @@ loop-preserved g c =
     record {
       can = tt;
       finite = tt;
-      who = c.serve_pair.ensures.caller ∙ i.who;
-      done = done-more c.args.limits.now (d.caller c.args.desk.now) (w.pending c.args.listen.now) (w.pending c.loop.listen) (w.pending c.next-in-loop.new.self) one
+      stands = c.serve_pair.ensures.stands ∙ i.stands;
+      done = done-more c.args.limits.now (d.stands c.args.desk.now).caller (w.pending c.args.listen.now) (w.pending c.loop.listen) (w.pending c.next-in-loop.new.self) one
           (d.seen c.args.desk.now) (d.mine c.args.desk.now) (d.seen c.loop.desk) (d.mine c.loop.desk) (d.seen c.serve_pair.new.desk) (d.mine c.serve_pair.new.desk)
-          i.done handed (subst P i.who s.2);
+          i.done handed (subst P (same_caller i.stands) s.2);
       fault_count = omega (arith, i.fault_count, c.next-in-loop.ensures.cause.later);
       end_count = omega (arith, i.end_count, c.next-in-loop.ensures.ends.later);
     }
+
+pub serve_pair-requires-clause-chunks : goal.serve_pair-requires-clause-chunks
+serve_pair-requires-clause-chunks g c = same_chunks c.loop.invariant.stands ∙ c.requires.chunks

@@ -9,8 +9,8 @@ invariant-loop g l =
     record {
       can : (goal.iterator-loop g).can_next l.iterator';
       finite : (goal.iterator-loop g).is_finite l.iterator';
-      who : d.caller l.desk ≡ d.caller l.fn.desk;
-      done : AreDone l.limits (d.caller l.fn.desk) (w.pending l.fn.listen) (w.pending l.listen) (d.seen l.fn.desk) (d.mine l.fn.desk) (d.seen l.desk) (d.mine l.desk);
+      stands : d.stands l.desk ≡ d.stands l.fn.desk;
+      done : AreDone l.limits (d.stands l.fn.desk).caller (w.pending l.fn.listen) (w.pending l.listen) (d.seen l.fn.desk) (d.mine l.fn.desk) (d.seen l.desk) (d.mine l.desk);
       fault_count : w.fault_count l.fn.listen ≤ w.fault_count l.listen;
       end_count : w.end_count l.fn.listen ≤ w.end_count l.listen;
     }

@@ -6,6 +6,9 @@ use Rattle.gcs_bucket.proofs.bucket.Bucket.apply.Goals as goal
 pub apply-requires-clause-ready : goal.apply-requires-clause-ready
 apply-requires-clause-ready g c = ready_when _ c.self.invariant (rw (← c.self.view_is) at c.requires.small)
 
+pub apply-requires-clause-lies : goal.apply-requires-clause-lies
+apply-requires-clause-lies g c = rw (← c.self.view_is) at c.requires.lies
+
 pub invariant_of-self : goal.invariant_of-self
 invariant_of-self g c =
     sound_after c.apply.result _ _ _ _ (in_range_of _ c.requires.in_range) c.self.invariant c.apply.ensures.done c.apply.ensures.err

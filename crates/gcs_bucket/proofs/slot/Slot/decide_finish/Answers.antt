@@ -6,6 +6,7 @@ use Rattle.gcs_meaning.specs.Put.{put_step}
 use Rattle.gcs_bucket.specs.Alive.{alive_of, state_of}
 use Rattle.gcs_bucket.specs.Put.{decided_put, IsNextAlive}
 use Rattle.gcs_bucket.specs.Slot.{value_of}
+use Rattle.gcs_bucket.proofs.Contents.{kept_lies}
 use Rattle.gcs_bucket.proofs.Finishing.{finish_dead, finish_ended, finish_made, finish_missing, finish_partial, finish_refused, finishing_of}
 use Rattle.gcs_bucket.proofs.slot.Slot.decide_finish.Goals as goal
 
@@ -26,6 +27,10 @@ returns-then-not-is_whole-clause-decided g c =
     finish_partial (value_of c.args.self.now) c.args.moment c.args.number (state_of c.in-Some.state) c.in-Some-get.upload.now (ap alive_of c.in-Some.is) (sym c.in-Some-get.ensures)
     (sym c.in_ok-answer.ensures ∙ c.in_default-2.is) (sym c.if-not-is_whole.ensures)
     ∙ ap (λ n. (Kept n, aged (value_of c.args.self.now) c.args.moment)) (sym c.len.ensures.length)
+
+pub digest-requires-clause-kept : goal.digest-requires-clause-kept
+digest-requires-clause-kept g c =
+    kept_lies _ (value_of c.args.self.now) (state_of c.in-Some.state) c.args.number c.in-Some-get.upload.now (ap alive_of c.in-Some.is) (sym c.in-Some-get.ensures) c.requires.lies
 
 pub returns-in-Ok-clause-decided : goal.returns-in-Ok-clause-decided
 returns-in-Ok-clause-decided g c =

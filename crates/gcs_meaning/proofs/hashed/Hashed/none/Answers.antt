@@ -5,4 +5,4 @@ use Rattle.gcs_crc.specs.Crc.{crc}
 use Rattle.gcs_meaning.proofs.hashed.Hashed.none.Goals as goal
 
 pub invariant_of-result : goal.invariant_of-result
-invariant_of-result c = (c.value.ensures [] c.new.ensures ∙ ap crc (sym (ap bytes_of c.empty.ensures ∙ bytes_of-no_content)), refl)
+invariant_of-result c = (c.value.ensures [] c.new.ensures ∙ ap crc (sym (ap bytes_of c.empty.ensures.none ∙ bytes_of-no_content)), refl)

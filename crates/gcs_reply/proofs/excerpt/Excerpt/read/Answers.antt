@@ -2,6 +2,7 @@ use Rattle.std.proofs.Common.{◌≡◌, ◌∙◌, ◌-◌, ◌++◌, ℕ, List
 use Rattle.std.specs.Prelude.{slice_range}
 use Rattle.std.proofs.lemmas.List.{length-drop, length-take-le}
 use Rattle.gcs_chunks.specs.Content.{bytes_of}
+use Rattle.gcs_reply.specs.Excerpt.{cut_bytes}
 use Rattle.gcs_reply.proofs.Reading.{read-part}
 use Rattle.gcs_reply.proofs.excerpt.Excerpt.read.Goals as goal
 
@@ -10,7 +11,7 @@ returns-clause-bytes c =
     let e = c.self.inside in
     let xs : List ℕ = bytes_of e.content in
     let whole = c.self.invariant in
-    let view = c.self.view_is in
+    let view = ap cut_bytes c.self.view_is in
     let size : length (slice_range xs e.from e.to) ≡ e.to - e.from =
     length-take-le (e.to - e.from) (drop e.from xs) (omega (arith, whole.1, length-drop e.from xs)) in
     let place : c.min.result ≡ min c.args.at (e.to - e.from) = c.min.ensures ∙ ap (λ (m : ℕ). min c.args.at m) (c.len.ensures.length ∙ ap (λ (l : List ℕ). length l) (sym view) ∙ size) in

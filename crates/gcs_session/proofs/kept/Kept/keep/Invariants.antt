@@ -1,6 +1,7 @@
 -- What of the part has been kept, and that no list moves.
 use Rattle.std.proofs.Common.{◌≡◌, ◌++◌, ℕ, List, length}
 use Rattle.gcs_meaning.specs.Desk.{AreUnmoved}
+use Rattle.gcs_session.specs.Contents.{KeptLiesIn}
 use Rattle.gcs_session.specs.Holding.{IsHeld}
 use Rattle.gcs_session.proofs.kept.Kept.keep.Given as goal
 
@@ -9,7 +10,8 @@ invariant-loop-rest g l = record {
   front : List ℕ;
   part_is : l.part ≡ front ++ l.rest;
   kept : (bytes : List ℕ) → IsHeld l.fn.self bytes → IsHeld l.self (bytes ++ front);
-  caller : g.D.Desk.caller l.desk ≡ g.D.Desk.caller l.fn.desk;
+  lies : KeptLiesIn (g.D.Desk.stands l.fn.desk).chunks l.fn.self → KeptLiesIn (g.D.Desk.stands l.fn.desk).chunks l.self;
+  stands : g.D.Desk.stands l.desk ≡ g.D.Desk.stands l.fn.desk;
   lists : AreUnmoved (g.D.Desk.seen l.fn.desk) (g.D.Desk.mine l.fn.desk) (g.D.Desk.seen l.desk) (g.D.Desk.mine l.desk);
 }
 

@@ -9,7 +9,7 @@ use Rattle.gcs_session.proofs.session.Session.begin.Goals as goal
 pub returns-clause-coming : goal.returns-clause-coming
 returns-clause-coming c = λ bytes messages it stands empty.
     let limits = limits_of c.args.self.now.framer in
-    let coming = c.new-coming.ensures limits it.head (ap (λ (l : Limits). l.json) (sym c.limits.ensures))
+    let coming = c.new-coming.ensures.coming limits it.head (ap (λ (l : Limits). l.json) (sym c.limits.ensures))
     (c.read-fields.ensures bytes messages it stands)
     (sym (c.minor.ensures bytes messages it stands)) in
     let keeps : Bool = stays it.head && not (1 + length messages == limits.requests) in

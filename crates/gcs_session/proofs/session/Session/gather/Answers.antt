@@ -1,12 +1,15 @@
 use Rattle.std.proofs.Common.{◌≡◌, ◌∙◌, ◌-◌, ◌++◌, ℕ, List, Some, length, take, drop, refl, ap, sym, subst, arith}
+use Rattle.std.specs.Prelude.{IfSome}
 use Rattle.std.proofs.lemmas.List.{length-drop}
 use Rattle.gcs_http_in.specs.declared.state.Taken.TheVariants as taken
 use Rattle.gcs_http_in.specs.Stands.{Stands, Told, limits_of}
 use Rattle.gcs_session.specs.declared.session.Session.{Session}
+use Rattle.gcs_session.specs.Contents.{ComingLiesIn}
 use Rattle.gcs_session.specs.Session.{IsGatheredTo, IsReading, IsUnderWay}
 use Rattle.gcs_session.specs.declared.session.Event.TheVariants as event
 use Rattle.gcs_session.proofs.Drops.{rest-whole}
 use Rattle.gcs_session.proofs.Gathering.{IsSameBut, gathered-end, gathered-fault, gathered-more, reading-body, reading-head, taken-more}
+use Rattle.gcs_session.proofs.Standings.{same_chunks, stay_along}
 use Rattle.gcs_session.proofs.session.Session.gather.Goals as goal
 
 pub begin-requires : goal.begin-requires
@@ -34,7 +37,7 @@ events-preserved-in-Head g c =
       limits = ap limits_of framer ∙ c.in-Head.ensures.limits ∙ i.limits;
       unsent = same.unsent ∙ i.unsent;
       closed = same.closed ∙ i.closed;
-      caller = i.caller;
+      stands = i.stands;
       lists = i.lists;
       reading = λ bytes messages text drained begun.
           let x = i.reading bytes messages text drained begun in
@@ -44,6 +47,7 @@ events-preserved-in-Head g c =
           (subst (λ f. Told f rest (taken.Head n) (bytes ++ take at piece) messages x.current) (sym framer) told)
           (λ it stands empty. subst (λ f. IsUnderWay (limits_of f) messages (Some it) t.coming) (sym framer)
           (c.begin.ensures.coming ((bytes ++ take at piece) ++ take n rest) messages it (subst (λ f. Stands f ((bytes ++ take at piece) ++ take n rest) messages (Some it)) framer stands) empty)));
+      lies = λ old. c.begin.ensures.lies (g.D.Desk.stands c.args.desk.now).chunks;
     }
 
 pub events-preserved : goal.events-preserved
@@ -64,7 +68,7 @@ events-preserved g c =
       limits = ap limits_of framer ∙ c.in-Body.ensures.limits ∙ i.limits;
       unsent = same.unsent ∙ i.unsent;
       closed = same.closed ∙ i.closed;
-      caller = c.keep.ensures.caller ∙ i.caller;
+      stands = c.keep.ensures.stands ∙ i.stands;
       lists = record { seen = λ s. c.keep.ensures.lists.seen s ∙ i.lists.seen s; mine = λ s. c.keep.ensures.lists.mine s ∙ i.lists.mine s };
       reading = λ bytes messages text drained begun.
           let x = i.reading bytes messages text drained begun in
@@ -73,6 +77,7 @@ events-preserved g c =
           (reading-body c.events.self t rest (bytes ++ take at piece) n c.in-Body.from c.in-Body.to messages text drained same (ap limits_of framer ∙ c.in-Body.ensures.limits) x
           (subst (λ f. Told f rest (taken.Body n c.in-Body.from c.in-Body.to) (bytes ++ take at piece) messages x.current) (sym framer) told)
           c.keep.ensures.coming);
+      lies = λ old. stay_along (λ k. IfSome c.events.self.coming (ComingLiesIn k)) (λ k. IfSome t.coming (ComingLiesIn k)) (same_chunks i.stands) c.keep.ensures.lies (i.lies old);
     }
 
 pub returns-in-More-clause-gathered : goal.returns-in-More-clause-gathered

@@ -3,7 +3,9 @@ use Rattle.std.proofs.Common.{◌≡◌, ◌∙◌, ℕ, List, ◌∷◌, ◌++�
 use Rattle.std.specs.Prelude.{slice_range}
 use Rattle.gcs_multipart.specs.Grammar.{Part}
 use Rattle.gcs_multipart.specs.Stands.{held_of}
+use Rattle.gcs_session.specs.Contents.{PartsKeptLieIn}
 use Rattle.gcs_session.specs.TwoParts.{AreKept, begun}
+use Rattle.gcs_session.proofs.Standings.{same_chunks, stay_along}
 use Rattle.gcs_session.proofs.two_parts.TwoParts.take_event.Goals as goal
 
 pub returns-in_ok-add-in-Content-2-clause-read : goal.returns-in_ok-add-in-Content-2-clause-read
@@ -23,3 +25,17 @@ returns-in_ok-add-in-Content-2-clause-read g c = λ most boundary bytes x.
       stands = told.4.2;
       kept = subst (λ (content : List ℕ). AreKept most c.add-in-Content.new.self (record { head = it.head; content = content } ∷ x.whole)) same more;
     }
+
+pub returns-in_ok-add-in-Content-2-clause-lies : goal.returns-in_ok-add-in-Content-2-clause-lies
+returns-in_ok-add-in-Content-2-clause-lies g c = λ old.
+    stay_along (λ k. PartsKeptLieIn k c.add.new.self) (λ k. PartsKeptLieIn k c.add-in-Content.new.self) (same_chunks c.add.ensures.stands) c.add-in-Content.ensures.lies (c.add.ensures.lies old)
+
+pub returns-in_err-add-in-Content-2-clause-lies : goal.returns-in_err-add-in-Content-2-clause-lies
+returns-in_err-add-in-Content-2-clause-lies g c = λ old.
+    stay_along (λ k. PartsKeptLieIn k c.add.new.self) (λ k. PartsKeptLieIn k c.add-in-Content.new.self) (same_chunks c.add.ensures.stands) c.add-in-Content.ensures.lies (c.add.ensures.lies old)
+
+pub returns-in_err-begin_part-in-PartHead-clause-lies : goal.returns-in_err-begin_part-in-PartHead-clause-lies
+returns-in_err-begin_part-in-PartHead-clause-lies g c = λ old. c.begin_part.ensures.lies (g.D.Desk.stands c.args.desk.now).chunks
+
+pub returns-in_ok-begin_part-in-PartHead-clause-lies : goal.returns-in_ok-begin_part-in-PartHead-clause-lies
+returns-in_ok-begin_part-in-PartHead-clause-lies g c = λ old. c.begin_part.ensures.lies (g.D.Desk.stands c.args.desk.now).chunks
