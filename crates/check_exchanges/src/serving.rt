@@ -36,14 +36,27 @@ pub struct Outcome {
 pub fn serve_row(alloc: Global, row: &Row<'_>, course: Course) -> Result<Served, AllocError> {
     let chunks = Chunks::new(alloc)?;
     let mut desk = tub_desk(alloc, &chunks)?;
-    let mut outcomes = Vec::new(alloc);
-    for connection in &row.connections {
-        let outcome = serve(alloc, &mut desk, &chunks, &row.limits, connection, course)?;
-        outcomes.push(outcome)?;
-    }
+    let outcomes = serve_each(alloc, &mut desk, &chunks, row, course)?;
     let entries = entries_of(&desk);
     drop(desk);
     Ok(Served { outcomes, entries })
+}
+
+fn serve_each(
+    alloc: Global,
+    desk: &mut PlainDesk<'_>,
+    chunks: &Chunks,
+    row: &Row<'_>,
+    course: Course,
+) -> Result<Vec<Outcome>, AllocError>
+    requires { desk.old.chunks ≡ chunks.now }
+{
+    let mut outcomes = Vec::new(alloc);
+    for connection in &row.connections {
+        let outcome = serve(alloc, desk, chunks, &row.limits, connection, course)?;
+        outcomes.push(outcome)?;
+    }
+    Ok(outcomes)
 }
 
 fn serve(

@@ -1,5 +1,5 @@
 use Rattle.std.proofs.Common.{◌≡◌}
-use Rattle.check_exchanges.proofs.serving.serve_row.Given as goal
+use Rattle.check_exchanges.proofs.serving.serve_each.Given as goal
 
 -- the desk keeps its chunks
 abbrev pub invariant-loop-connection : goal.invariant-loop-connection
