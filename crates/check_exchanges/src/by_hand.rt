@@ -6,11 +6,11 @@ ghost use Rattle.gcs_session.specs.Session.{IsRunning};
 
 use crate::failure::Failure;
 use crate::store::START;
-use gcs_bucket::PlainDesk;
 use gcs_chunks::Chunks;
 use gcs_http_in::Limits;
 use gcs_io::{Clock, ListClock};
 use gcs_session::{Fed, Session, Want};
+use gcs_store::PlainDesk;
 use std::alloc::{AllocError, Global};
 
 /// A call of `feed`, and a call of `drain` behind it.

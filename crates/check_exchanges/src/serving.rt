@@ -6,11 +6,11 @@ use crate::limits::RowLimits;
 use crate::row::{Connection, Row};
 use crate::store::{START, TUB, entries_of, tub_desk};
 use crate::wire::{Feed, Tray};
-use gcs_bucket::PlainDesk;
 use gcs_chunks::Chunks;
 use gcs_io::{ListClock, StdSink, StdSource};
 use gcs_meaning::Text;
 use gcs_session::{SessionEnd, serve_connection};
+use gcs_store::PlainDesk;
 use gcs_workers::run_alone;
 use std::alloc::{AllocError, Global};
 

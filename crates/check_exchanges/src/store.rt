@@ -7,9 +7,9 @@ ghost use Rattle.gcs_meaning.specs.History.{bucket_of};
 ghost use Rattle.gcs_meaning.specs.Policy.{AreInLimits};
 ghost use Rattle.gcs_meaning.specs.Step.{IsInRange};
 
-use gcs_bucket::PlainDesk;
 use gcs_chunks::Chunks;
 use gcs_meaning::{BucketName, Command, Desk, Pairs, Settings, Text, shard_of};
+use gcs_store::PlainDesk;
 use std::alloc::{AllocError, Global};
 
 /// When the bucket is made, and what a clock gives for which nothing is said: 2023-11-14T22:13:20.000Z.

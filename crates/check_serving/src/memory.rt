@@ -1,10 +1,10 @@
 //! Connections in memory.
 use crate::report::tell;
-use gcs_bucket::PlainDesk;
 use gcs_chunks::Chunks;
 use gcs_http_in::Limits;
 use gcs_io::{ListClock, MemSink, MemSource};
 use gcs_meaning::shard_of;
+use gcs_store::PlainDesk;
 use gcs_workers::{ListListen, Listen, Pair, run_serve, serve_in_turn};
 use std::alloc::{AllocError, Global};
 use std::collections::VecDeque;

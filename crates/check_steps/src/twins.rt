@@ -5,9 +5,9 @@ ghost use Rattle.check_steps.specs.Commands.{IsAskable};
 use crate::comparing::is_same;
 use crate::kept::{Slot, Wanted};
 use crate::kinds::{Missing, kind_text};
-use gcs_bucket::Shard;
 use gcs_chunks::Chunks;
 use gcs_meaning::Command;
+use gcs_store::Shard;
 use std::alloc::{AllocError, Global};
 
 /// A shard of the store with the name of one bucket, and the plain store of that name.

@@ -6,12 +6,12 @@ ghost use Rattle.gcs_meaning.specs.Choosing.{is_live};
 use crate::answers::refusal_text;
 use crate::commands::{command_of, tub};
 use crate::version_commands::plain_meta;
-use gcs_bucket::Shard;
 use gcs_chunks::{Chunks, Content, Piece};
 use gcs_meaning::{
     BucketName, BucketRow, Copied, DEFAULT_CLASS, DEFAULT_SOFT_SECONDS, Expect, Hashed, Kind, List,
     Name, Pairs, Pre, Reason, Row, Settings, Text, Unit, Upload, UploadState,
 };
+use gcs_store::Shard;
 use gcs_versions::{Steps, Versions};
 use std::alloc::{AllocError, Global};
 use std::marker::Brand;

@@ -5,9 +5,9 @@ ghost use Rattle.check_store.specs.Commands.{IsAskable};
 
 use crate::commands::{command_of, tub};
 use crate::upload_commands::zeros;
-use gcs_bucket::Shard;
 use gcs_chunks::Chunks;
 use gcs_meaning::{Answer, Command, Hashed};
+use gcs_store::Shard;
 use std::alloc::{AllocError, Global};
 
 const MOMENT: u64 = 1_700_000_000_000_000;

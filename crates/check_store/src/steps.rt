@@ -5,9 +5,9 @@ use crate::answers::answer_text;
 use crate::calls::call_text;
 use crate::commands::command_of;
 use check_rows::Show;
-use gcs_bucket::Shard;
 use gcs_chunks::Chunks;
 use gcs_meaning::Command;
+use gcs_store::Shard;
 use std::alloc::{AllocError, Global};
 
 /// A shard, and what its steps show.

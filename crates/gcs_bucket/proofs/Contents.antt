@@ -1,22 +1,12 @@
--- What lies in the chunks of a slot and of a shard.
-use Rattle.std.proofs.Common.{◌≡◌, ℕ, List, Some, sym, subst}
+-- What lies in the chunks of a slot.
+use Rattle.std.proofs.Common.{◌≡◌, ℕ, Some, subst}
 use Rattle.std.specs.Option.{IfSome}
 use Rattle.gcs_chunks.specs.Content.{ChunksValue, ContentLiesIn}
-use Rattle.gcs_meaning.specs.declared.command.Answer.{Answer}
-use Rattle.gcs_meaning.specs.declared.command.Command.{Command}
-use Rattle.gcs_meaning.specs.declared.command.Entry.{Entry}
 use Rattle.gcs_meaning.specs.declared.uploading.Upload.{Upload}
-use Rattle.gcs_meaning.specs.Contents.{AnswerLiesIn, CommandLiesIn, SlotLiesIn, SlotsLieIn, StateLiesIn}
-use Rattle.gcs_meaning.specs.History.{Slots, shard_step}
-use Rattle.gcs_meaning.specs.Slot.{Slot, State, fresh_slot}
+use Rattle.gcs_meaning.specs.Contents.{SlotLiesIn, StateLiesIn}
+use Rattle.gcs_meaning.specs.Slot.{Slot, State}
 use Rattle.gcs_meaning.specs.Uploads.{upload_of}
-use Rattle.gcs_meaning.proofs.Contents.{contents_stay}
 use Rattle.gcs_meaning.proofs.UploadsLie.{upload_lies}
-use Rattle.gcs_bucket.specs.Shard.{IsShard}
-
--- the slot before the first insert has no content
-pub fresh_lies : (chunks : ChunksValue) → SlotLiesIn chunks fresh_slot
-fresh_lies chunks = record { alive = tt; graves = tt }
 
 -- the bytes that an upload of a slot keeps
 pub kept_lies : (chunks : ChunksValue) (slot : Slot) (s : State) (number : ℕ) (upload : Upload) → slot.alive ≡ Some s → upload_of number s.uploads ≡ Some upload → SlotLiesIn chunks slot
@@ -24,13 +14,3 @@ pub kept_lies : (chunks : ChunksValue) (slot : Slot) (s : State) (number : ℕ) 
 kept_lies chunks slot s number upload lives at h =
     let living : StateLiesIn chunks s = subst (λ alive. IfSome alive (StateLiesIn chunks)) lives h.alive in
     (upload_lies chunks number upload s.uploads at living.uploads).kept
-
--- the slots of a shard
-pub slots_from_shard : (chunks : ChunksValue) (slots : Slots) (history : List Entry) → IsShard chunks slots history → SlotsLieIn chunks slots
-slots_from_shard chunks slots history h = subst (SlotsLieIn chunks) (sym h.replayed) (contents_stay.replayed chunks history h.contents)
-
--- what a shard answers
-pub answer_from_shard : (chunks : ChunksValue) (slots new : Slots) (history : List Entry) (moment : ℕ) (command : Command) (answer : Answer) → IsShard chunks slots history
-    → CommandLiesIn chunks command → shard_step slots moment command ≡ (answer, new) → AnswerLiesIn chunks answer
-answer_from_shard chunks slots new history moment command answer h lies done =
-    subst (λ (p : Answer × Slots). AnswerLiesIn chunks p.0) done (contents_stay.shard chunks slots moment command (slots_from_shard chunks slots history h) lies).0

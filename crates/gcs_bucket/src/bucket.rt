@@ -63,7 +63,7 @@ impl Bucket {
     }
 
     /// What is shown of the bucket, where it is alive. `Err`: no memory.
-    pub(crate) fn show(&self, name: &BucketName) -> Result<Option<BucketRow>, AllocError>
+    pub fn show(&self, name: &BucketName) -> Result<Option<BucketRow>, AllocError>
         ensures { IfOk result (λ shown. shown ≡ option_map (bucket_row name.now) self.now.alive) }
     {
         match &self.slot.alive {

@@ -1,5 +1,4 @@
-//! The one-thread store: a bucket's slot with each command on it, the slots of a shard with the
-//! history that they come from, and the desk of a program that shares its store with nobody.
+//! What is kept under the name of a bucket, its slot, with each command on it.
 #![tactic(auto)]
 
 mod alive;
@@ -8,12 +7,10 @@ mod bucket;
 mod bucket_change;
 mod bucket_deletion;
 mod bucket_get;
-mod bucket_lists;
 mod bucket_lock;
 mod bucket_restore;
 mod cancel;
 mod compose;
-mod desk;
 mod ended;
 mod finish;
 mod get;
@@ -25,12 +22,8 @@ mod object_deletion;
 mod put;
 mod refusals;
 mod restore;
-mod shard;
 mod slot;
-mod slots;
 mod start;
 
 pub use bucket::Bucket;
-pub use desk::PlainDesk;
 pub use gcs_versions::Steps;
-pub use shard::Shard;

@@ -2,7 +2,7 @@
 ghost use Rattle.std.specs.Prelude.{◌≡◌, ◌⊎◌, ℕ, List, [], OnOk, Option};
 ghost use Rattle.gcs_io.specs.Causes.{Rose};
 ghost use Rattle.gcs_io.specs.Told.{Gains};
-ghost use Rattle.gcs_bucket.specs.Desk.{history_at};
+ghost use Rattle.gcs_store.specs.Desk.{history_at};
 ghost use Rattle.gcs_http_in.specs.Usual.{usual};
 ghost use Rattle.gcs_workers.specs.declared.words.Work.TheVariants.{Stdio};
 ghost use Rattle.gcs_workers.specs.Alone.{IsAlone, IsOpened, IsRefused};
@@ -13,13 +13,13 @@ ghost use Rattle.gcs_workers.specs.Words.{IsWork};
 use crate::refusal::refuse_words;
 use crate::status::{Status, status_of_session};
 use crate::words::{Word, WordsFault, Work, read_words};
-use gcs_bucket::PlainDesk;
 use gcs_chunks::Chunks;
 use gcs_http_in::Limits;
 use gcs_io::{Clock, Sink, Source};
 use gcs_meaning::{BucketName, Command, Desk, shard_of};
 use gcs_rewrite::usual_settings;
 use gcs_session::serve_connection;
+use gcs_store::PlainDesk;
 use std::alloc::{AllocError, Global};
 
 /// Does the words `stdio` and `stdio BUCKET`: makes the bucket where one is named, at one reading of the clock, serves

@@ -8,9 +8,9 @@ ghost use Rattle.gcs_workers.specs.Serving.{IsRun};
 use crate::listener::Listen;
 use crate::serving::serve_in_turn;
 use crate::status::{Status, status_of_end};
-use gcs_bucket::PlainDesk;
 use gcs_chunks::Chunks;
 use gcs_http_in::Limits;
+use gcs_store::PlainDesk;
 use std::alloc::Global;
 use std::sync::Wait;
 

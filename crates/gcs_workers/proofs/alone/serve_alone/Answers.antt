@@ -1,6 +1,6 @@
 -- A connection over the desk that the bucket was made at.
 use Rattle.std.proofs.Common.{◌∙◌, ap, inl, subst}
-use Rattle.gcs_bucket.specs.Desk.{history_at}
+use Rattle.gcs_store.specs.Desk.{history_at}
 use Rattle.gcs_http_in.specs.declared.limits.Limits.{Limits}
 use Rattle.gcs_session.specs.Connection.{IsServed}
 use Rattle.gcs_workers.specs.Status.{status_number}

@@ -1,5 +1,5 @@
 use Rattle.std.proofs.Common.{subst}
-use Rattle.gcs_bucket.specs.Desk.{history_at}
+use Rattle.gcs_store.specs.Desk.{history_at}
 use Rattle.gcs_http_in.specs.declared.limits.Limits.{Limits}
 use Rattle.gcs_workers.specs.Serving.{AreServed}
 use Rattle.gcs_workers.proofs.running.run_serve.Goals as goal

@@ -1,5 +1,5 @@
 use Rattle.gcs_bucket.proofs.Laws.{covered_after, rises_after}
-use Rattle.gcs_bucket.proofs.Listed.{in_range_of}
+use Rattle.gcs_bucket.proofs.Asked.{in_range_of}
 use Rattle.gcs_bucket.proofs.Sound.{ready_when, sound_after}
 use Rattle.gcs_bucket.proofs.bucket.Bucket.apply.Goals as goal
 

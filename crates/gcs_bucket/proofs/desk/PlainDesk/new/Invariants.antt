@@ -1,6 +1,0 @@
-use Rattle.std.proofs.Common.{◌≡◌, replicate}
-use Rattle.gcs_bucket.specs.Desk.{empty_shard}
-use Rattle.gcs_bucket.proofs.desk.PlainDesk.new.Given as goal
-
-abbrev pub invariant-loop : goal.invariant-loop
-invariant-loop l = l.shards.items ≡ replicate l.counter (empty_shard l.chunks)

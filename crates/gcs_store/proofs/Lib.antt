@@ -1,0 +1,13 @@
+pub mod AllPasses
+pub mod Calls
+pub mod Changes
+pub mod Closed
+pub mod Contents
+pub mod Desks
+pub mod Entries
+pub mod Listed
+pub mod Rising
+pub mod Opened
+pub mod Rows
+pub mod Seats
+pub mod Slotted
