@@ -1,5 +1,5 @@
 -- One more reading.
-use Rattle.std.proofs.Common.{◌≡◌, ℕ, ◌+◌, List, [], ◌∷◌, ◌++◌, refl, add-one, Bool, true, false, Option, Some, None, if◌then◌else◌, ap, ◌∙◌}
+use Rattle.std.proofs.Common.{◌≡◌, ℕ, ◌+◌, List, [], ◌∷◌, ◌++◌, refl, add-one, Bool, true, false, Some, None, if◌then◌else◌, ap, ◌∙◌}
 use Rattle.gcs_io.specs.Readings.{reading_at, readings}
 use Rattle.gcs_io.specs.Told.{Gains}
 

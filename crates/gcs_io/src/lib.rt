@@ -8,11 +8,13 @@
 mod clock;
 mod failing;
 mod gate;
+mod hold;
 mod sink;
 mod source;
 
 pub use clock::{Clock, ListClock, SystemClock};
 pub use gate::{Gate, Place, QuietGate};
+pub use hold::HoldGate;
 pub use sink::{MemSink, Sink, StdSink};
 pub use source::{MemSource, Source, StdSource};
 
