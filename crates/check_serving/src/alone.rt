@@ -1,13 +1,11 @@
 //! The program over one connection in memory.
+use crate::listener::MOMENT;
 use crate::report::tell;
 use crate::words::words_of;
 use gcs_io::{ListClock, MemSink, MemSource};
 use gcs_workers::run_alone;
 use std::alloc::{AllocError, Global};
 use std::{io, str};
-
-/// What the clock shows: 2023-11-14T22:13:20.000Z, in microseconds since 1970.
-const MOMENT: u64 = 1_700_000_000_000_000;
 
 const DELETE: &str = "DELETE /storage/v1/b/tub HTTP/1.1\r\n\r\n";
 

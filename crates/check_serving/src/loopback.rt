@@ -1,22 +1,25 @@
 //! Connections over loopback, each sent whole before the first is served.
-use crate::memory::{CUT, READS, UPLOADS};
+use crate::listener::{CUT, READS, UPLOADS};
 use crate::report::tell;
-use gcs_workers::{TcpPairs, run_serve};
+use crate::words::words_of;
+use gcs_io::{MemSink, QuietGate};
+use gcs_workers::{TcpPairs, run_shared};
 use std::alloc::Global;
 use std::io;
 use std::io::Write;
 use std::net::{Net, Shutdown, SocketAddr, TcpListener, TcpStream};
 use std::rt::Clock;
 use std::sync::Wait;
+use std::thread::Threads;
 use std::time::Duration;
 
 /// For how many seconds a connection may stand still.
-const IDLE_SECONDS: u64 = 5;
+pub const IDLE_SECONDS: u64 = 5;
 
-/// Serves three connections, the second of which is cut, and looks at what their clients get.
+/// Serves three connections by one worker, the second of which is cut, and looks at what their clients get.
 pub fn try_loopback<R>(rt: &R) -> io::Result<bool>
 where
-    R: Net<Listener = TcpListener, Stream = TcpStream> + Wait + Clock + Print + AllocGlobal,
+    R: Net<Listener = TcpListener, Stream = TcpStream> + Threads + Wait + Sync + Clock + Print + AllocGlobal,
 {
     let alloc = rt.alloc();
     let listener = TcpListener::bind(rt, "127.0.0.1:0")?;
@@ -24,13 +27,25 @@ where
     let first = send(rt, address, UPLOADS)?;
     let second = send(rt, address, CUT)?;
     let third = send(rt, address, READS)?;
-    let mut pairs = TcpPairs::new(listener, rt, Duration::from_secs(IDLE_SECONDS), Some(3));
-    let status = format!(in alloc; "{:?}", run_serve(rt, alloc, &mut pairs))?;
+    let pairs = TcpPairs::new(listener, rt, Duration::from_secs(IDLE_SECONDS), Some(3));
+    let mut output = MemSink::new(alloc, 100, Vec::new(alloc))?;
+    let mut errors = MemSink::new(alloc, 100, Vec::new(alloc))?;
+    let words = words_of(alloc, "serve 127.0.0.1:0 1 3")?;
+    let (status, pairs) = run_shared(
+        rt,
+        alloc,
+        &words,
+        pairs,
+        &QuietGate,
+        &mut output,
+        &mut errors,
+    );
+    let status = format!(in alloc; "{status}")?;
     let mut all_ok = tell(
         rt,
         "the run ends behind its last connection",
         status.as_str(),
-        "Done",
+        "0",
     )?;
     let replies = receive(alloc, first)?;
     let made = format!(in alloc; "{} made", replies.matches("HTTP/1.1 200 OK\r\n").count())?;
@@ -58,7 +73,8 @@ where
     Ok(all_ok)
 }
 
-fn send<R>(rt: &R, address: SocketAddr, text: &str) -> io::Result<TcpStream>
+/// A connection over which a text was sent, and no more comes.
+pub fn send<R>(rt: &R, address: SocketAddr, text: &str) -> io::Result<TcpStream>
 where
     R: Net<Listener = TcpListener, Stream = TcpStream>,
 {
@@ -68,6 +84,7 @@ where
     Ok(stream)
 }
 
-fn receive(alloc: Global, stream: TcpStream) -> io::Result<String> {
+/// All that comes over the connection.
+pub fn receive(alloc: Global, stream: TcpStream) -> io::Result<String> {
     io::read_to_string(alloc, stream)
 }

@@ -1,103 +1,96 @@
-//! Connections in memory.
+//! Connections in memory, by one worker and by three.
+use crate::listener::{CUT, READS, UPLOADS, listener};
 use crate::report::tell;
 use gcs_chunks::Chunks;
 use gcs_http_in::Limits;
-use gcs_io::{ListClock, MemSink, MemSource};
+use gcs_io::QuietGate;
 use gcs_meaning::shard_of;
-use gcs_store::PlainDesk;
-use gcs_workers::{ListListen, Listen, Pair, run_serve, serve_in_turn};
+use gcs_store::SharedStore;
+use gcs_workers::{Listen, serve_all};
 use std::alloc::{AllocError, Global};
-use std::collections::VecDeque;
 use std::io;
 use std::sync::Wait;
-
-/// Makes the bucket `box`, and an object in it.
-pub const UPLOADS: &str = "POST /storage/v1/b?project=p HTTP/1.1\r\nContent-Length: 14\r\n\r\n\
-    {\"name\":\"box\"}\
-    POST /upload/storage/v1/b/box/o?uploadType=media&name=a HTTP/1.1\r\nContent-Length: 9\r\n\r\n\
-    123456789";
-
-/// Ends in the body of an upload.
-pub const CUT: &str = "POST /upload/storage/v1/b/box/o?uploadType=media&name=b HTTP/1.1\r\n\
-    Content-Length: 9\r\n\r\n\
-    1234";
-
-/// Reads the object.
-pub const READS: &str = "GET /storage/v1/b/box/o/a?alt=media HTTP/1.1\r\n\r\n";
-
-/// What the clock of each connection shows: 2023-11-14T22:13:20.000Z, in microseconds since 1970.
-const MOMENT: u64 = 1_700_000_000_000_000;
-
-/// How many bytes of replies a connection takes.
-const ROOM: usize = 4_096;
+use std::thread::Threads;
 
 /// Connections, the numbers of the calls of `next` that fail, and what must come of it.
 struct Row {
     case: &'static str,
     connections: &'static [&'static str],
     failing: &'static [u32],
-    wanted: &'static str,
+    by_one: &'static str,
+    by_three: &'static str,
 }
 
 const ROWS: [Row; 4] = [
     Row {
-        case: "three connections, the second of which is cut",
+        case: "three connections, one of which is cut",
         connections: &[UPLOADS, CUT, READS],
         failing: &[],
-        wanted: "Ended, 3 entries, 0 faults, 1 ends, Done",
+        by_one: "Ended, 3 entries, 0 faults, 1 ends",
+        by_three: "Ended, 3 entries, 0 faults, 3 ends",
     },
     Row {
-        case: "a listener that fails behind its first connection",
+        case: "a listener whose second call fails",
         connections: &[UPLOADS, READS],
         failing: &[2],
-        wanted: "ListenFault, 2 entries, 1 faults, 0 ends, ListenFault",
+        by_one: "ListenFault, 2 entries, 1 faults, 0 ends",
+        by_three: "ListenFault, 3 entries, 1 faults, 2 ends",
     },
     Row {
-        case: "a listener that fails at once",
+        case: "a listener whose first call fails",
         connections: &[UPLOADS],
         failing: &[1],
-        wanted: "ListenFault, 0 entries, 1 faults, 0 ends, ListenFault",
+        by_one: "ListenFault, 0 entries, 1 faults, 0 ends",
+        by_three: "ListenFault, 2 entries, 1 faults, 2 ends",
     },
     Row {
         case: "no connections",
         connections: &[],
         failing: &[],
-        wanted: "Ended, 0 entries, 0 faults, 1 ends, Done",
+        by_one: "Ended, 0 entries, 0 faults, 1 ends",
+        by_three: "Ended, 0 entries, 0 faults, 3 ends",
     },
 ];
 
 /// Serves the connections of each row.
-pub fn try_memory<R: Wait + Print + AllocGlobal>(rt: &R) -> io::Result<bool> {
+pub fn try_memory<R>(rt: &R) -> io::Result<bool>
+where
+    R: Threads + Wait + Sync + Print + AllocGlobal,
+{
+    let alloc = rt.alloc();
     let mut all_ok = true;
     for row in &ROWS {
-        let came = serve_row(rt, rt.alloc(), row)?;
-        all_ok &= tell(rt, row.case, came.as_str(), row.wanted)?;
+        let came = serve_row(rt, alloc, row, 1)?;
+        let case = format!(in alloc; "{}, one worker", row.case)?;
+        all_ok &= tell(rt, case.as_str(), came.as_str(), row.by_one)?;
+        let came = serve_row(rt, alloc, row, 3)?;
+        let case = format!(in alloc; "{}, three workers", row.case)?;
+        all_ok &= tell(rt, case.as_str(), came.as_str(), row.by_three)?;
     }
     Ok(all_ok)
 }
 
-// How serving over one store ended, how many entries the shard of `box` has then, the listener's counts, and the status
-// that the same connections have as a whole run.
-fn serve_row<R: Wait>(rt: &R, alloc: Global, row: &Row) -> Result<String, AllocError> {
+// How serving ended, how many entries the shard of `box` has then, and the listener's counts.
+fn serve_row<R: Threads + Wait + Sync>(
+    rt: &R,
+    alloc: Global,
+    row: &Row,
+    workers: u32,
+) -> Result<String, AllocError>
+    requires { (1 ≤ workers) × (workers ≤ 64) }
+{
     let chunks = Chunks::new(alloc)?;
-    let mut desk = PlainDesk::new(alloc, &chunks)?;
-    let mut listen = listener(alloc, row)?;
-    let end = serve_in_turn(rt, alloc, &mut desk, &chunks, &mut listen, &Limits::usual());
-    let entries = desk.shard(shard_of(b"box")).history().len();
+    let (store, passes) = SharedStore::new(alloc, &chunks, workers)?;
+    let listen = listener(alloc, row.connections, row.failing)?;
+    let limits = Limits::usual();
+    let (end, passes, listen) = serve_all(
+        rt, alloc, &store, &chunks, listen, &QuietGate, passes, &limits,
+    );
     let (faults, ends) = (listen.faults(), listen.ends());
-    let status = run_serve(rt, alloc, &mut listener(alloc, row)?);
-    format!(in alloc; "{end:?}, {entries} entries, {faults} faults, {ends} ends, {status:?}")
-}
-
-fn listener(alloc: Global, row: &Row) -> Result<ListListen, AllocError> {
-    let mut pairs = VecDeque::new(alloc);
-    for text in row.connections {
-        let pieces = vec![in alloc; text.as_bytes().to_vec(alloc)?]?;
-        pairs.push_back(Pair {
-            source: MemSource::new(pieces, Vec::new(alloc)),
-            sink: MemSink::new(alloc, ROOM, Vec::new(alloc))?,
-            clock: ListClock::new(vec![in alloc; MOMENT]?),
-        })?;
-    }
-    Ok(ListListen::new(pairs, row.failing.to_vec(alloc)?))
+    let Ok(shards) = store.finish(passes) else {
+        return Err(AllocError);
+    };
+    let place = usize::from(shard_of(b"box"));
+    let entries = shards.get(place).map_or(0, |shard| shard.history().len());
+    format!(in alloc; "{end:?}, {entries} entries, {faults} faults, {ends} ends")
 }

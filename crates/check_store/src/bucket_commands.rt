@@ -91,7 +91,21 @@ fn terms_of(word: &str) -> Option<Terms> {
 fn insert(alloc: Global, bucket: BucketName, terms: Terms) -> Result<Command, AllocError>
     ensures { IfOk result IsAskable }
 {
-    let settings = Settings {
+    let settings = settings_of(alloc, terms)?;
+    Ok(Command::BucketInsert { bucket, settings })
+}
+
+/// Settings with soft deletion, and nothing else. `Err`: no memory.
+pub fn plain_settings(alloc: Global) -> Result<Settings, AllocError>
+    ensures { IfOk result AreInLimits }
+{
+    settings_of(alloc, USUAL)
+}
+
+fn settings_of(alloc: Global, terms: Terms) -> Result<Settings, AllocError>
+    ensures { IfOk result AreInLimits }
+{
+    Ok(Settings {
         location: Text::from_str(alloc, "US")?,
         storage_class: Text::from_str(alloc, DEFAULT_CLASS)?,
         labels: Pairs::new(alloc),
@@ -101,8 +115,7 @@ fn insert(alloc: Global, bucket: BucketName, terms: Terms) -> Result<Command, Al
         retention: policy(terms),
         soft_seconds: duration(terms),
         soft_since: 0,
-    };
-    Ok(Command::BucketInsert { bucket, settings })
+    })
 }
 
 fn policy(terms: Terms) -> Option<Retention>

@@ -7,6 +7,7 @@ mod calls;
 mod commands;
 mod copies;
 mod finishes;
+mod in_turns;
 mod joins;
 mod steps;
 mod upload_commands;
@@ -16,11 +17,15 @@ use check_rows::{first_failure, read_rows, report, status};
 use copies::first_bad_copy;
 use finishes::{has_digests_of_all, is_copied_whole};
 use gcs_chunks::Chunks;
+use in_turns::entries_in_turns;
 use joins::{are_given, are_joined};
 use std::process::ExitCode;
 use std::rt::Files;
 use std::{env, fs, io};
 use steps::Store;
+
+/// Callers and their numbers with the entries that they made.
+const IN_TURNS: &str = "1.0 insert; 2.0 put; 1.1 get; ";
 
 fn main(rt: HostRuntime) -> io::Result<ExitCode> {
     let mut all_ok = true;
@@ -30,6 +35,12 @@ fn main(rt: HostRuntime) -> io::Result<ExitCode> {
     let copied = first_bad_copy(rt.alloc())?;
     all_ok &= report(&rt, "copies_equal_their_sources", "copies", copied)?;
     all_ok &= run_cases(&rt, &Chunks::new(rt.alloc())?)?;
+    let came = entries_in_turns(&rt, rt.alloc())?;
+    all_ok &= tell(
+        &rt,
+        "three_callers_of_a_store_call_in_turns",
+        came.as_str() == IN_TURNS,
+    )?;
     Ok(status(all_ok))
 }
 

@@ -1,11 +1,9 @@
 //! The program: a Cloud Storage server over TCP, or over standard input and output.
 #![tactic(auto)]
 
-use gcs_io::{StdSink, StdSource, SystemClock};
+use gcs_io::{QuietGate, Sink, StdSink, StdSource, SystemClock};
 use gcs_meaning::Text;
-use gcs_workers::{
-    Status, TcpPairs, Word, WordsFault, Work, check_workers, read_words, run_alone, run_serve,
-};
+use gcs_workers::{Status, TcpPairs, Word, WordsFault, Work, read_words, run_alone, run_shared};
 use std::alloc::{AllocError, Global};
 use std::env;
 use std::io::ErrorKind;
@@ -13,6 +11,7 @@ use std::net::{Net, TcpListener, TcpStream};
 use std::process::ExitCode;
 use std::rt::Clock;
 use std::sync::Wait;
+use std::thread::Threads;
 use std::time::Duration;
 
 /// For how many seconds a connection may stand still before it is ended.
@@ -24,16 +23,11 @@ fn main(rt: HostRuntime) -> ExitCode {
         return ExitCode::from(Status::NoMemory.number());
     };
     let status = match read_words(alloc, &words) {
-        Ok(
-            Work::Serve {
-                address,
-                workers,
-                connections,
-            },
-        ) => match check_workers(workers, &mut StdSink::new(rt.stderr())) {
-            Ok(()) => serve(&rt, alloc, address.as_str(), connections).number(),
-            Err(status) => status.number(),
-        },
+        Ok(Work::Serve {
+            address,
+            workers: _workers,
+            connections,
+        }) => serve(&rt, alloc, &words, address.as_str(), connections),
         Ok(Work::Stdio { bucket: _bucket }) => alone(&rt, alloc, &words),
         Err(WordsFault::Bad) => alone(&rt, alloc, &words),
         Err(WordsFault::NoMemory) => Status::NoMemory.number(),
@@ -57,22 +51,34 @@ fn words(rt: &HostRuntime, alloc: Global) -> Result<Vec<Word>, AllocError> {
 }
 
 // Binds the address, says on the error output which it is, and serves its connections.
-fn serve<R>(rt: &R, alloc: Global, address: &str, connections: Option<u32>) -> Status
+fn serve<R>(rt: &R, alloc: Global, words: &[Word], address: &str, connections: Option<u32>) -> u8
 where
-    R: Net<Listener = TcpListener, Stream = TcpStream> + Wait + Clock + Eprint,
+    R: Net<Listener = TcpListener, Stream = TcpStream> + Threads + Wait + Sync + Clock + Print + Eprint,
 {
     let Ok(listener) = TcpListener::bind(rt, address) else {
-        return Status::ListenFault;
+        return Status::ListenFault.number();
     };
     let Ok(bound) = listener.local_addr() else {
-        return Status::ListenFault;
+        return Status::ListenFault.number();
     };
     if eprintln!(rt; "gcs_server: listening on {bound}").is_err() {
-        return Status::WriteFault;
+        return Status::WriteFault.number();
     }
     let idle = Duration::from_secs(IDLE_SECONDS);
-    let mut pairs = TcpPairs::new(listener, rt, idle, connections);
-    run_serve(rt, alloc, &mut pairs)
+    let pairs = TcpPairs::new(listener, rt, idle, connections);
+    let mut output = StdSink::new(rt.stdout());
+    let mut errors = StdSink::new(rt.stderr());
+    let (status, pairs) = run_shared(
+        rt,
+        alloc,
+        words,
+        pairs,
+        &QuietGate,
+        &mut output,
+        &mut errors,
+    );
+    drop(pairs);
+    status
 }
 
 // Serves standard input and output, or refuses the words.

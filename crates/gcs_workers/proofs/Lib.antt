@@ -1,4 +1,4 @@
-pub mod ListenerLemmas
 pub mod Opened
 pub mod PositionalLemmas
 pub mod ServingLemmas
+pub mod WorkedLemmas

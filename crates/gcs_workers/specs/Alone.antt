@@ -1,5 +1,5 @@
 -- The program over one connection.
-use Rattle.std.specs.Prelude.{◌≡◌, ◌≢◌, ◌⊎◌, ℕ, List, [], ◌∷◌, Bool, Option, Some, None, codes}
+use Rattle.std.specs.Prelude.{◌≡◌, ◌≢◌, ◌⊎◌, ℕ, List, [], ◌∷◌, Bool, Option, Some, None}
 use Rattle.gcs_io.specs.Told.{Gains}
 use Rattle.gcs_http_in.specs.declared.limits.Limits.{Limits}
 use Rattle.gcs_meaning.specs.declared.command.Command.TheVariants.{BucketInsert}
@@ -8,8 +8,7 @@ use Rattle.gcs_meaning.specs.Desk.{Histories, AreLists}
 use Rattle.gcs_rewrite.specs.Inserts.{usual_settings}
 use Rattle.gcs_session.specs.declared.ends.SessionEnd.{SessionEnd}
 use Rattle.gcs_session.specs.Connection.{IsServed}
-use Rattle.gcs_workers.specs.declared.status.Status.{Status}
-use Rattle.gcs_workers.specs.Refusal.{IsRefusal}
+use Rattle.gcs_workers.specs.Refusal.{AreTurnedAway}
 use Rattle.gcs_workers.specs.Status.{session_status, status_number}
 use Rattle.gcs_workers.specs.Told.{Told, outside_of}
 
@@ -39,9 +38,7 @@ abbrev pub IsAlone : Limits → Option (List ℕ) → Told → Told → Bool →
 IsAlone limits name a b ended status =
     IsSolo limits name a b ended status ⊎ ((status ≡ 5) × (b.left ≡ a.left) × (b.taken ≡ a.taken) × (b.written ≡ a.written))
 
--- nothing was read or written but the line on the error sink, or a part of it after a fault; want of memory is status 5
+-- nothing was read or written but the line on the error sink
 abbrev pub IsRefused : Told → Told → Option (List ℕ) → Option (List ℕ) → ℕ → Type 0
 IsRefused a b wrong wrong' status =
-    (b.left ≡ a.left) × (b.taken ≡ a.taken) × (b.written ≡ a.written) × (b.given ≡ a.given)
-    × (((refusal : Status) × (status ≡ status_number refusal) × IsRefusal (codes "gcs_server: bad words\n") wrong wrong' refusal)
-    ⊎ ((status ≡ 5) × (wrong' ≡ wrong)))
+    (b.left ≡ a.left) × (b.taken ≡ a.taken) × (b.written ≡ a.written) × (b.given ≡ a.given) × AreTurnedAway wrong wrong' status

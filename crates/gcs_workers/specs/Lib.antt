@@ -7,3 +7,4 @@ pub mod Serving
 pub mod Status
 pub mod Told
 pub mod Words
+pub mod Working

@@ -6,7 +6,7 @@ use Rattle.gcs_io.specs.MemorySource.{source_rest, source_taken}
 use Rattle.gcs_io.specs.declared.clock.ListClock.{ListClock}
 use Rattle.gcs_io.specs.declared.sink.MemSink.{MemSink}
 use Rattle.gcs_io.specs.declared.source.MemSource.{MemSource}
-use Rattle.gcs_workers.specs.declared.listener.Pair.{Pair}
+use Rattle.gcs_workers.specs.declared.link.Pair.{Pair}
 use Rattle.gcs_workers.specs.declared.memory.ListListen.{ListListen}
 use Rattle.gcs_workers.specs.Told.{Told, told}
 

@@ -1,11 +1,13 @@
 //! What the program does with its words: one connection over standard input and output, or those that come to an address,
-//! served one after another over one store.
+//! served by workers beside each other over one store.
 //!
-//! A listener hands out connections, in memory or over TCP. One desk serves each of them to its end, so that the next
-//! one finds what the one before left. The statuses of the program stand here too.
+//! A listener hands out connections, in memory or over TCP. Each worker takes the next one and serves it to its end at its
+//! own desk of the store. The statuses of the program stand here too.
 #![tactic(auto)]
 
 mod alone;
+mod gated;
+mod link;
 mod listener;
 mod memory;
 mod positionals;
@@ -16,13 +18,14 @@ mod status;
 mod stream;
 mod tcp;
 mod words;
+mod workers;
 
 pub use alone::run_alone;
-pub use listener::{Listen, Pair};
+pub use link::{Link, Pair};
+pub use listener::Listen;
 pub use memory::ListListen;
-pub use refusal::check_workers;
-pub use running::run_serve;
-pub use serving::{ServeEnd, serve_in_turn};
+pub use running::run_shared;
+pub use serving::{ServeEnd, serve_all};
 pub use status::Status;
 pub use stream::{TcpReader, TcpWriter};
 pub use tcp::TcpPairs;

@@ -4,26 +4,19 @@ ghost use Rattle.gcs_io.specs.Causes.{HasCause};
 ghost use Rattle.gcs_workers.specs.Listener.{HandsOut, HasEnd};
 ghost use Rattle.gcs_workers.specs.Told.{told, Told};
 
+use crate::link::Link;
 use gcs_io::{Clock, Failed, Sink, Source};
-
-/// A connection: where its bytes come from, where the replies go, and the clock that its messages are read at.
-#[derive(Drop)]
-pub struct Pair<S, K, C> {
-    pub source: S,
-    pub sink: K,
-    pub clock: C,
-}
 
 /// Gives one connection after another.
 ///
 /// connections a, b    next: a; next: b; next: none, the first end; next: none, the second end
 /// and a failing call  next: a; next: failed, the first fault; next: b
 pub trait Listen: Drop {
-    type Reader: Source;
+    type Reader: Source + Send;
 
-    type Writer: Sink;
+    type Writer: Sink + Send;
 
-    type Time: Clock;
+    type Time: Clock + Send;
 
     /// What the connections that are still to come tell of themselves, in order, where that is told.
     ghost pending: { Self → Option (List Told) };
@@ -35,7 +28,7 @@ pub trait Listen: Drop {
     ghost end_count: { Self → ℕ };
 
     /// The next connection. None: none is pending, and that is counted. `Failed`: the failure is counted.
-    fn next(&mut self) -> Result<Option<Pair<Self::Reader, Self::Writer, Self::Time>>, Failed>
+    fn next(&mut self) -> Result<Option<Link<Self::Reader, Self::Writer, Self::Time>>, Failed>
         ensures pending { HandsOut (λ p. told (Self.Reader.rest p.source) (Self.Reader.taken p.source) (Self.Writer.written p.sink) (Self.Time.given p.clock)) (pending self.old) (pending self.new) result }
         ensures cause { HasCause (fault_count self.old) (fault_count self.new) result }
         ensures ends { HasEnd (end_count self.old) (end_count self.new) result };

@@ -1,7 +1,8 @@
 //! Connections in memory.
 ghost use Rattle.std.specs.Prelude.{◌≡◌, map, Some};
 
-use crate::listener::{Listen, Pair};
+use crate::link::{Link, Pair};
+use crate::listener::Listen;
 use gcs_io::{Failed, ListClock, MemSink, MemSource};
 use std::collections::VecDeque;
 
@@ -64,13 +65,13 @@ impl Listen for ListListen {
 
     ghost end_count = { λ s. s.ends };
 
-    fn next(&mut self) -> Result<Option<Pair<MemSource, MemSink, ListClock>>, Failed> {
+    fn next(&mut self) -> Result<Option<Link<MemSource, MemSink, ListClock>>, Failed> {
         if self.next_fails() {
             self.faults = self.faults.saturating_add(1);
             return Err(Failed);
         }
         match self.pairs.pop_front() {
-            Some(pair) => Ok(Some(pair)),
+            Some(pair) => Ok(Some(Link::new(pair))),
             None => {
                 self.ends = self.ends.saturating_add(1);
                 Ok(None)

@@ -2,7 +2,8 @@
 ghost use Rattle.std.specs.Prelude.{◌≡◌, ◌<◌, None};
 ghost use Rattle.std.specs.Duration.{as_nanos};
 
-use crate::listener::{Listen, Pair};
+use crate::link::{Link, Pair};
+use crate::listener::Listen;
 use crate::stream::{TcpReader, TcpWriter};
 use gcs_io::{Failed, StdSink, StdSource, SystemClock};
 use std::net::{TcpListener, TcpStream};
@@ -31,7 +32,7 @@ pub struct TcpPairs<R: SystemTimes + Copy + Drop> {
     ends: u64,
 }
 
-impl<R: SystemTimes + Copy + Drop> TcpPairs<R> {
+impl<R: SystemTimes + Copy + Drop + Send> TcpPairs<R> {
     /// `idle`: a read that gets no byte for so long, or a write that gets none away, fails.
     pub fn new(
         listener: TcpListener,
@@ -53,7 +54,9 @@ impl<R: SystemTimes + Copy + Drop> TcpPairs<R> {
             ends: 0,
         }
     }
+}
 
+impl<R: SystemTimes + Copy + Drop> TcpPairs<R> {
     // A connection's stream, and a second handle of it.
     fn halves(&self) -> Result<(TcpStream, TcpStream), Failed> {
         let stream = self.accept()?;
@@ -95,7 +98,7 @@ impl<R: SystemTimes + Copy + Drop> TcpPairs<R> {
     }
 }
 
-impl<R: SystemTimes + Copy + Drop> Listen for TcpPairs<R> {
+impl<R: SystemTimes + Copy + Drop + Send> Listen for TcpPairs<R> {
     type Reader = StdSource<TcpReader>;
 
     type Writer = StdSink<TcpWriter<R>>;
@@ -108,7 +111,7 @@ impl<R: SystemTimes + Copy + Drop> Listen for TcpPairs<R> {
 
     ghost end_count = { λ s. s.ends };
 
-    fn next(&mut self) -> Result<Option<Pair<Self::Reader, Self::Writer, Self::Time>>, Failed> {
+    fn next(&mut self) -> Result<Option<Link<Self::Reader, Self::Writer, Self::Time>>, Failed> {
         match self.left {
             Some(0) => {
                 self.ends = self.ends.saturating_add(1);
@@ -118,11 +121,11 @@ impl<R: SystemTimes + Copy + Drop> Listen for TcpPairs<R> {
             None => {}
         }
         match self.halves() {
-            Ok((reader, writer)) => Ok(Some(Pair {
+            Ok((reader, writer)) => Ok(Some(Link::new(Pair {
                 source: StdSource::new(TcpReader::new(reader)),
                 sink: StdSink::new(TcpWriter::new(writer, self.rt)),
                 clock: SystemClock::new(self.rt),
-            })),
+            }))),
             Err(Failed) => {
                 self.faults = self.faults.saturating_add(1);
                 Err(Failed)
