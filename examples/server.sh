@@ -8,7 +8,7 @@ errors=$(mktemp) || exit 1
 failed=0
 
 # With port 0 the system chooses a free port, which the server's line tells.
-"${GCS_SERVER:-$top/run}" serve 127.0.0.1:0 1 2> >(tee "$errors" >&2) &
+"${GCS_SERVER:-$top/run}" serve 127.0.0.1:0 4 2> >(tee "$errors" >&2) &
 server=$!
 trap 'kill "$server" 2>/dev/null; wait "$server" 2>/dev/null; rm -f "$errors"' EXIT
 

@@ -23,7 +23,7 @@ LISTENING = "gcs_server: listening on "
 @contextlib.contextmanager
 def server():
     """Runs the server, and gives the address on which it listens."""
-    words = [os.environ.get("GCS_SERVER", RUN), "serve", "127.0.0.1:0", "1"]
+    words = [os.environ.get("GCS_SERVER", RUN), "serve", "127.0.0.1:0", "4"]
     with subprocess.Popen(words, stderr=subprocess.PIPE, text=True) as process:
         try:
             for line in process.stderr:

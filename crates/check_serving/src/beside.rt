@@ -52,8 +52,9 @@ fn serve_both<R: Threads + Wait + Sync>(
     let (store, passes) = SharedStore::new(alloc, &chunks, 2)?;
     let limits = Limits::usual();
     let made = listener(alloc, &[INSERT], &[])?;
-    let (_, passes, made) =
-        serve_all(rt, alloc, &store, &chunks, made, &QuietGate, passes, &limits);
+    let (_, passes, made) = serve_all(
+        rt, alloc, &store, &chunks, made, &QuietGate, passes, &limits,
+    );
     let both = listener(alloc, &[PUT, GET], &[])?;
     let (_, passes, both) = serve_all(rt, alloc, &store, &chunks, both, gate, passes, &limits);
     let Ok(shards) = store.finish(passes) else {
@@ -67,7 +68,11 @@ fn serve_both<R: Threads + Wait + Sync>(
         }
     }
     let line = line.trim_end();
-    format!(in alloc; "{line}, ran out {}, {} reads held", gate.ran_out(), gate.reads())
+    format!(in alloc;
+        "{line}, ran out {}, {} reads held",
+        gate.ran_out(),
+        gate.reads()
+    )
 }
 
 fn name_of(entry: &Entry) -> &'static str {

@@ -19,7 +19,13 @@ pub const IDLE_SECONDS: u64 = 5;
 /// Serves three connections by one worker, the second of which is cut, and looks at what their clients get.
 pub fn try_loopback<R>(rt: &R) -> io::Result<bool>
 where
-    R: Net<Listener = TcpListener, Stream = TcpStream> + Threads + Wait + Sync + Clock + Print + AllocGlobal,
+    R: Net<Listener = TcpListener, Stream = TcpStream>
+        + Threads
+        + Wait
+        + Sync
+        + Clock
+        + Print
+        + AllocGlobal,
 {
     let alloc = rt.alloc();
     let listener = TcpListener::bind(rt, "127.0.0.1:0")?;

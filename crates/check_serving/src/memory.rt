@@ -1,4 +1,6 @@
 //! Connections in memory, by one worker and by three.
+ghost use Rattle.std.specs.Prelude.{◌≤◌};
+
 use crate::listener::{CUT, READS, UPLOADS, listener};
 use crate::report::tell;
 use gcs_chunks::Chunks;

@@ -1,5 +1,5 @@
 //! Workers who put one object over and over, beside each other.
-ghost use Rattle.std.specs.Prelude.{◌×◌, ◌≤◌};
+ghost use Rattle.std.specs.Prelude.{◌≤◌};
 
 use crate::listener::{MOMENT, listener};
 use crate::report::tell;
@@ -8,7 +8,7 @@ use gcs_http_in::Limits;
 use gcs_io::QuietGate;
 use gcs_meaning::{Answer, BucketName, Command, Name, Pre, Text, shard_of};
 use gcs_store::{Shard, SharedStore};
-use gcs_workers::serve_all;
+use gcs_workers::{ListListen, serve_all};
 use std::alloc::{AllocError, Global};
 use std::io;
 use std::sync::Wait;
@@ -68,16 +68,13 @@ fn put_beside<R: Threads + Wait + Sync>(
     let (store, passes) = SharedStore::new(alloc, &chunks, workers)?;
     let limits = Limits::usual();
     let made = listener(alloc, &[INSERT], &[])?;
-    let (_, passes, made) =
-        serve_all(rt, alloc, &store, &chunks, made, &QuietGate, passes, &limits);
-    let text = PUT.repeat(alloc, TIMES)?;
-    let mut texts = Vec::new(alloc);
-    for _ in 0..workers {
-        texts.push(text.as_str())?;
-    }
-    let putting = listener(alloc, &texts, &[])?;
-    let (_, passes, putting) =
-        serve_all(rt, alloc, &store, &chunks, putting, &QuietGate, passes, &limits);
+    let (_, passes, made) = serve_all(
+        rt, alloc, &store, &chunks, made, &QuietGate, passes, &limits,
+    );
+    let putting = putting(alloc, workers)?;
+    let (_, passes, putting) = serve_all(
+        rt, alloc, &store, &chunks, putting, &QuietGate, passes, &limits,
+    );
     let Ok(mut shards) = store.finish(passes) else {
         return Err(AllocError);
     };
@@ -85,6 +82,13 @@ fn put_beside<R: Threads + Wait + Sync>(
         Some(shard) => told(alloc, shard),
         None => String::from_str(alloc, "no shard"),
     }
+}
+
+// A connection for each worker, which puts the object over and over.
+fn putting(alloc: Global, workers: u32) -> Result<ListListen, AllocError> {
+    let text = PUT.repeat(alloc, TIMES)?;
+    let texts = vec![in alloc; text.as_str(); workers as usize]?;
+    listener(alloc, &texts, &[])
 }
 
 fn told(alloc: Global, shard: &mut Shard<'_>) -> Result<String, AllocError> {

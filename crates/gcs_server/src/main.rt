@@ -23,11 +23,26 @@ fn main(rt: HostRuntime) -> ExitCode {
         return ExitCode::from(Status::NoMemory.number());
     };
     let status = match read_words(alloc, &words) {
-        Ok(Work::Serve {
-            address,
-            workers: _workers,
-            connections,
-        }) => serve(&rt, alloc, &words, address.as_str(), connections),
+        Ok(
+            Work::Serve {
+                address,
+                workers: _workers,
+                connections,
+            },
+        ) => {
+            let mut output = StdSink::new(rt.stdout());
+            let mut errors = StdSink::new(rt.stderr());
+            let address = address.as_str();
+            serve(
+                &rt,
+                alloc,
+                &words,
+                address,
+                connections,
+                &mut output,
+                &mut errors,
+            )
+        }
         Ok(Work::Stdio { bucket: _bucket }) => alone(&rt, alloc, &words),
         Err(WordsFault::Bad) => alone(&rt, alloc, &words),
         Err(WordsFault::NoMemory) => Status::NoMemory.number(),
@@ -51,9 +66,17 @@ fn words(rt: &HostRuntime, alloc: Global) -> Result<Vec<Word>, AllocError> {
 }
 
 // Binds the address, says on the error output which it is, and serves its connections.
-fn serve<R>(rt: &R, alloc: Global, words: &[Word], address: &str, connections: Option<u32>) -> u8
+fn serve<R, O: Sink, E: Sink>(
+    rt: &R,
+    alloc: Global,
+    words: &[Word],
+    address: &str,
+    connections: Option<u32>,
+    output: &mut O,
+    errors: &mut E,
+) -> u8
 where
-    R: Net<Listener = TcpListener, Stream = TcpStream> + Threads + Wait + Sync + Clock + Print + Eprint,
+    R: Net<Listener = TcpListener, Stream = TcpStream> + Threads + Wait + Sync + Clock + Eprint,
 {
     let Ok(listener) = TcpListener::bind(rt, address) else {
         return Status::ListenFault.number();
@@ -66,17 +89,7 @@ where
     }
     let idle = Duration::from_secs(IDLE_SECONDS);
     let pairs = TcpPairs::new(listener, rt, idle, connections);
-    let mut output = StdSink::new(rt.stdout());
-    let mut errors = StdSink::new(rt.stderr());
-    let (status, pairs) = run_shared(
-        rt,
-        alloc,
-        words,
-        pairs,
-        &QuietGate,
-        &mut output,
-        &mut errors,
-    );
+    let (status, pairs) = run_shared(rt, alloc, words, pairs, &QuietGate, output, errors);
     drop(pairs);
     status
 }
