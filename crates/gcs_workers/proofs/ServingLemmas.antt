@@ -1,7 +1,6 @@
 -- Connections that one caller served, and further ones.
-use Rattle.std.proofs.Common.{◌≡◌, ℕ, List, [], ◌∷◌, ◌++◌, refl, subst, sym, ap}
+use Rattle.std.proofs.Common.{ℕ, List, [], ◌∷◌, ◌++◌, refl, subst, ap}
 use Rattle.gcs_http_in.specs.declared.limits.Limits.{Limits}
-use Rattle.gcs_meaning.specs.declared.command.Entry.{Entry}
 use Rattle.gcs_meaning.specs.Desk.{Histories}
 use Rattle.gcs_session.specs.Connection.{IsServed}
 use Rattle.gcs_session.specs.Running.{Grows}

@@ -1,5 +1,5 @@
 -- What workers do between two moments of their callers' passes.
-use Rattle.std.specs.Prelude.{◌≡◌, ℕ, List, [], ◌∷◌}
+use Rattle.std.specs.Prelude.{◌≡◌, List, [], ◌∷◌}
 use Rattle.gcs_http_in.specs.declared.limits.Limits.{Limits}
 use Rattle.gcs_session.specs.Running.{Grows}
 use Rattle.gcs_store.specs.declared.passes.Passes.{Passes}

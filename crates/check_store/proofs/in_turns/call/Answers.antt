@@ -37,11 +37,15 @@ call-made-requires-clause-contents g c = c.requires.command.0.1 c.desk-desk.resu
 pub returns-in-Ok : goal.returns-in-Ok
 returns-in-Ok g c =
     let p = lent c.args.store.now c.args.passes.now.items c.args.caller c.index_mut.result.now c.replace-own.result c.requires.passes c.requires.caller c.index_mut.ensures.value c.replace-own.ensures.value in
-    record { passes = back c.args.store.now c.args.passes.now.items c.args.caller c.replace-own.result c.replace-own.new.dest c.leave.result c.desk-desk.result c.call-made.new.self c.requires.passes p
-        c.desk-desk.ensures c.call-made.ensures.stands c.leave.ensures.own c.leave.ensures.caller }
+    record {
+      passes = back c.args.store.now c.args.passes.now.items c.args.caller c.replace-own.result c.replace-own.new.dest c.leave.result c.desk-desk.result c.call-made.new.self c.requires.passes p
+          c.desk-desk.ensures c.call-made.ensures.stands c.leave.ensures.own c.leave.ensures.caller;
+    }
 
 pub returns-in-Err : goal.returns-in-Err
 returns-in-Err g c =
     let p = lent c.args.store.now c.args.passes.now.items c.args.caller c.index_mut.result.now c.replace-own.result c.requires.passes c.requires.caller c.index_mut.ensures.value c.replace-own.ensures.value in
-    record { passes = back c.args.store.now c.args.passes.now.items c.args.caller c.replace-own.result c.replace-own.new.dest c.leave.result c.desk-desk.result c.call-made.new.self c.requires.passes p
-        c.desk-desk.ensures c.call-made.ensures.stands c.leave.ensures.own c.leave.ensures.caller }
+    record {
+      passes = back c.args.store.now c.args.passes.now.items c.args.caller c.replace-own.result c.replace-own.new.dest c.leave.result c.desk-desk.result c.call-made.new.self c.requires.passes p
+          c.desk-desk.ensures c.call-made.ensures.stands c.leave.ensures.own c.leave.ensures.caller;
+    }

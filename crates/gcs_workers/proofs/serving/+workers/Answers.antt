@@ -32,4 +32,4 @@ serve_beside-returns-clause-worked g t c =
     let others = c.serve_both.new.others.items in
     let done = worked_append w.limits.now w.store.now left others last c.serve_both.new.one c.serve_both.ensures.worked c.serve_both.ensures.one in
     subst (λ (l : List Passes). HaveWorked w.limits.now w.store.now l c.push_reserved.new.self.items) (sym c.in-Some.ensures.items)
-        (subst (HaveWorked w.limits.now w.store.now (left ++ last ∷ [])) (sym c.push_reserved.ensures.items) done)
+    (subst (HaveWorked w.limits.now w.store.now (left ++ last ∷ [])) (sym c.push_reserved.ensures.items) done)

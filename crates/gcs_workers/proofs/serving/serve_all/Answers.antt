@@ -1,7 +1,4 @@
 -- The workers begin, and begin again.
-use Rattle.std.proofs.Common.{List}
-use Rattle.gcs_store.specs.declared.passes.Passes.{Passes}
-use Rattle.gcs_workers.specs.Working.{HaveWorked}
 use Rattle.gcs_workers.proofs.WorkedLemmas.{all_none, all_on, worked_all, worked_own}
 use Rattle.gcs_workers.proofs.serving.serve_all.Goals as goal
 
